@@ -1,0 +1,19 @@
+-- The names that reports print.
+use Rattle.std.specs.Prelude.{ℕ, List, codes}
+use Rattle.tl_base.specs.declared.crossing.CrossKind.{CrossKind}
+use Rattle.tl_base.specs.declared.crossing.CrossKind.TheVariants as cross
+use Rattle.tl_base.specs.declared.refusal.RefusalCode.{RefusalCode}
+use Rattle.tl_base.specs.declared.refusal.RefusalCode.TheVariants as code
+
+-- how a report names a kind of crossing
+abbrev pub cross_name : CrossKind → List ℕ
+cross_name cross.Place = codes "place"
+cross_name cross.Operand = codes "operand"
+cross_name cross.Equal = codes "equal"
+cross_name cross.Expose = codes "expose"
+
+-- how a report names a code of refusal
+abbrev pub code_name : RefusalCode → List ℕ
+code_name code.X1 = codes "X1"
+code_name code.G6 = codes "G6"
+code_name code.L5 = codes "L5"

@@ -1,0 +1,51 @@
+ghost use Rattle.std.specs.Prelude.{◌≡◌};
+ghost use Rattle.tl_base.specs.Names.{code_name};
+ghost use Rattle.tl_base.specs.declared.refusal.Failure.TheVariants as failure;
+
+use crate::{NoMemory, Pos};
+
+/// Why a program is refused before it runs. docs/CODES.md has each code's cause and cure.
+#[derive(Clone, Copy, Debug, PartialEq, Eq)]
+pub enum RefusalCode {
+    /// a form of module that isn't built yet
+    X1,
+    /// a file that is missing
+    G6,
+    /// a file longer than 1048576 bytes
+    L5,
+}
+
+impl RefusalCode {
+    /// The name that a report prints.
+    pub fn name(self) -> &'static str
+        ensures { result.now ≡ code_name self }
+    {
+        match self {
+            RefusalCode::X1 => "X1",
+            RefusalCode::G6 => "G6",
+            RefusalCode::L5 => "L5",
+        }
+    }
+}
+
+/// A refusal and its place.
+#[derive(Clone, Copy, Debug, PartialEq, Eq)]
+pub struct Refusal {
+    pub code: RefusalCode,
+    pub pos: Pos,
+}
+
+/// Why a stage gave no result: the program is refused, or memory ran out.
+#[derive(Clone, Copy, Debug, PartialEq, Eq)]
+pub enum Failure {
+    Refused(Refusal),
+    NoMemory,
+}
+
+impl From<NoMemory> for Failure {
+    ghost from_gives = { λ _ f. f ≡ failure.NoMemory };
+
+    fn from(_error: NoMemory) -> Failure {
+        Failure::NoMemory
+    }
+}
