@@ -1,0 +1,4 @@
+//! The top call of tlua: from the words to the exit status.
+#![tactic(auto)]
+
+mod reader;

@@ -1,0 +1,3 @@
+//! The reader of straight-line modules: text to tokens, tokens to statements.
+
+mod token;
