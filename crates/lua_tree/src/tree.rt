@@ -1,3 +1,6 @@
+ghost use Rattle.std.specs.Prelude.{◌≡◌};
+ghost use Rattle.lua_tree.specs.Tree.{exp_of, place_of};
+
 use tl_base::{Boxed, Bytes, CrossKind, List, ModuleKind, Pos};
 
 /// An operator on integers. `*` binds tighter than `+` and `-`.
@@ -20,6 +23,23 @@ pub enum Expr {
     Binary(Pos, Operator, Boxed<Expr>, Boxed<Expr>),
     /// A crossing of this kind, passed when the expression's value is there.
     Mark(CrossKind, Boxed<Expr>),
+}
+
+impl Expr {
+    /// The place of the first token.
+    pub fn pos(&self) -> Pos
+        ensures { result ≡ place_of (exp_of self.now) }
+    {
+        match self {
+            Expr::Nil(pos)
+            | Expr::Bool(pos, _)
+            | Expr::Int(pos, _)
+            | Expr::Str(pos, _)
+            | Expr::Local(pos, _)
+            | Expr::Binary(pos, ..) => *pos,
+            Expr::Mark(_, inner) => inner.get().pos(),
+        }
+    }
 }
 
 /// A type that a name stands for.

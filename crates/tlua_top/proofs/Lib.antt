@@ -1,2 +1,4 @@
+pub mod Cuts
 pub mod Reading
+pub mod Sizes
 pub mod Spelling

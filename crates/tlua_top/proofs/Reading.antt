@@ -6,7 +6,7 @@ use Rattle.tl_base.specs.declared.place.Pos.{Pos}
 use Rattle.lua_tree.specs.declared.tree.Operator.{Operator}
 use Rattle.lua_tree.specs.declared.tree.Operator.TheVariants as operator
 use Rattle.lua_tree.specs.declared.tree.TypeName.{TypeName}
-use Rattle.lua_tree.specs.Tree.{Exp, binary, Line, print, declare, assign}
+use Rattle.lua_tree.specs.Tree.{Exp, binary, Line, print, declare, assign, place_of}
 use Rattle.tlua_top.specs.declared.reader.token.Symbol.TheVariants as sign
 use Rattle.tlua_top.specs.declared.reader.token.Word.{Word}
 use Rattle.tlua_top.specs.declared.reader.token.Word.TheVariants as word
@@ -14,7 +14,7 @@ use Rattle.tlua_top.specs.declared.reader.token.TokenKind.{TokenKind}
 use Rattle.tlua_top.specs.declared.reader.token.TokenKind.TheVariants as kind
 use Rattle.tlua_top.specs.declared.reader.token.Token.{Token}
 use Rattle.tlua_top.specs.Tokens.{Text}
-use Rattle.tlua_top.specs.Grammar.{Tokens, Names, at, number_of, atom_of, atom_at, type_of, place_of, Product, atom, times, Sum, product, plus, minus, Spells, Arguments, one, more, Statement, printing, declaring, typing as with_annotation, assigning, Block, empty, next}
+use Rattle.tlua_top.specs.Grammar.{Tokens, Names, at, number_of, atom_of, atom_at, type_of, Product, atom, times, Sum, product, plus, minus, Spells, Arguments, one, more, Statement, printing, declaring, typing as with_annotation, assigning, Block, empty, next}
 use Rattle.tlua_top.specs.Machine.{Chain, Goal, argument, initial, stored, Stage, between, opening, naming, named, typing, typed, storing, wanting, having, Config, fresh, added, multiplied, wanted, with_type, begin_name, closed, run, then_run, last, goes}
 
 abbrev pub standing : Names → List Line → Stage → Config

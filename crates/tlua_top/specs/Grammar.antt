@@ -6,7 +6,7 @@ use Rattle.lua_tree.specs.declared.tree.Operator.{Operator}
 use Rattle.lua_tree.specs.declared.tree.Operator.TheVariants as operator
 use Rattle.lua_tree.specs.declared.tree.TypeName.{TypeName}
 use Rattle.lua_tree.specs.declared.tree.TypeName.TheVariants as named
-use Rattle.lua_tree.specs.Tree.{Exp, nothing, truth, integer, text, name, binary, mark, Line, print, declare, assign}
+use Rattle.lua_tree.specs.Tree.{Exp, nothing, truth, integer, text, name, binary, mark, Line, print, declare, assign, place_of}
 use Rattle.tlua_top.specs.declared.reader.token.Symbol.TheVariants as sign
 use Rattle.tlua_top.specs.declared.reader.token.Word.{Word}
 use Rattle.tlua_top.specs.declared.reader.token.Word.TheVariants as word
@@ -20,16 +20,6 @@ Tokens = List Token
 
 abbrev pub at : Pos → TokenKind → Token
 at p k = record { pos = p; kind = k }
-
--- the place of an expression is that of its first token
-abbrev pub place_of : Exp → Pos
-place_of (nothing p) = p
-place_of (truth p b) = p
-place_of (integer p n) = p
-place_of (text p s) = p
-place_of (name p x) = p
-place_of (binary p o a b) = p
-place_of (mark k e) = place_of e
 
 -- the names of the locals so far, the newest first
 abbrev pub Names : Type 0

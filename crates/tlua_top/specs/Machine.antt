@@ -4,7 +4,7 @@ use Rattle.tl_base.specs.declared.place.Pos.{Pos}
 use Rattle.lua_tree.specs.declared.tree.Operator.{Operator}
 use Rattle.lua_tree.specs.declared.tree.Operator.TheVariants as operator
 use Rattle.lua_tree.specs.declared.tree.TypeName.{TypeName}
-use Rattle.lua_tree.specs.Tree.{Exp, binary, Line, print, declare, assign}
+use Rattle.lua_tree.specs.Tree.{Exp, binary, Line, print, declare, assign, place_of}
 use Rattle.tlua_top.specs.declared.reader.token.Symbol.{Symbol}
 use Rattle.tlua_top.specs.declared.reader.token.Symbol.TheVariants as sign
 use Rattle.tlua_top.specs.declared.reader.token.Word.{Word}
@@ -13,7 +13,7 @@ use Rattle.tlua_top.specs.declared.reader.token.TokenKind.{TokenKind}
 use Rattle.tlua_top.specs.declared.reader.token.TokenKind.TheVariants as kind
 use Rattle.tlua_top.specs.declared.reader.token.Token.{Token}
 use Rattle.tlua_top.specs.Tokens.{Text}
-use Rattle.tlua_top.specs.Grammar.{Tokens, Names, number_of, atom_at, type_of, place_of}
+use Rattle.tlua_top.specs.Grammar.{Tokens, Names, number_of, atom_at, type_of}
 
 -- what stands to the left of an atom in its chain, and how many atoms came before it
 pub record Chain : Type 0 where

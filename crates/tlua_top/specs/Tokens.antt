@@ -1,5 +1,5 @@
 -- The tokens of a straight-line module, and the texts that they are cut from (a part of Lua manual 3.1).
-use Rattle.std.specs.Prelude.{◌≡◌, ◌==◌, ◌&&◌, ◌||◌, not, ℕ, ℤ, pos, ◌+◌, ◌-◌, ◌*◌, ◌^◌, Bool, true, false, List, [], ◌∷◌, length, drop, Option, Some, None, codes, nat_lt, nat_le, if◌then◌else◌, bytes_eq}
+use Rattle.std.specs.Prelude.{◌≡◌, ◌==◌, ◌&&◌, ◌||◌, not, ℕ, ℤ, pos, ◌+◌, ◌-◌, ◌*◌, ◌^◌, ◌<◌, Bool, true, false, List, [], ◌∷◌, length, drop, Option, Some, None, Result, Ok, Err, codes, nat_lt, nat_le, if◌then◌else◌, bytes_eq}
 use Rattle.std.specs.List.{take_while, prefix_len}
 use Rattle.tl_base.specs.declared.place.Pos.{Pos}
 use Rattle.tlua_top.specs.declared.reader.token.Symbol.{Symbol}
@@ -9,6 +9,8 @@ use Rattle.tlua_top.specs.declared.reader.token.Word.TheVariants as word
 use Rattle.tlua_top.specs.declared.reader.token.TokenKind.{TokenKind}
 use Rattle.tlua_top.specs.declared.reader.token.TokenKind.TheVariants as kind
 use Rattle.tlua_top.specs.declared.reader.token.Token.{Token}
+use Rattle.tlua_top.specs.declared.reader.ReadError.{ReadError}
+use Rattle.tlua_top.specs.declared.reader.ReadError.TheVariants.{NotOfThisForm, NoMemory}
 
 abbrev pub Text : Type 0
 Text = List ℕ
@@ -32,19 +34,20 @@ abbrev pub value_from : ℕ → Text → ℕ
 value_from v [] = v
 value_from v (d ∷ ds) = value_from (v * 10 + (d - 48)) ds
 
--- Lua's reserved words but for those that this form has a use for
-abbrev pub reserved : List Text
-reserved = codes "and" ∷ codes "break" ∷ codes "do" ∷ codes "else" ∷ codes "elseif" ∷ codes "end" ∷ codes "for" ∷ codes "function"
-    ∷ codes "goto" ∷ codes "if" ∷ codes "in" ∷ codes "not" ∷ codes "or" ∷ codes "repeat" ∷ codes "return" ∷ codes "then" ∷ codes "until" ∷ codes "while" ∷ []
-
 abbrev pub is_among : List Text → Text → Bool
 is_among [] w = false
 is_among (x ∷ xs) w = bytes_eq w x || is_among xs w
 
+-- Lua's reserved words but for those that this form has a use for
+abbrev pub is_reserved : Text → Bool
+is_reserved w = is_among (codes "and" ∷ codes "break" ∷ codes "do" ∷ codes "else" ∷ codes "elseif" ∷ codes "end" ∷ []) w
+    || is_among (codes "for" ∷ codes "function" ∷ codes "goto" ∷ codes "if" ∷ codes "in" ∷ codes "not" ∷ []) w
+    || is_among (codes "or" ∷ codes "repeat" ∷ codes "return" ∷ codes "then" ∷ codes "until" ∷ codes "while" ∷ []) w
+
 unfoldable pub word_of : Text → Word
 word_of w = if bytes_eq w (codes "print") then word.Print else (if bytes_eq w (codes "local") then word.Local else (if bytes_eq w (codes "nil") then word.Nil
     else (if bytes_eq w (codes "true") then word.True else (if bytes_eq w (codes "false") then word.False
-    else (if is_among reserved w then word.Reserved else word.Name w)))))
+    else (if is_reserved w then word.Reserved else word.Name w)))))
 
 abbrev pub symbol_of : ℕ → Option Symbol
 symbol_of b = if b == 40 then Some sign.Open else (if b == 41 then Some sign.Close else (if b == 44 then Some sign.Comma else (if b == 61 then Some sign.Equals
@@ -58,10 +61,13 @@ ends_numeral (b ∷ bs) = not (goes_on b || b == 46)
 abbrev pub numeral_at : Text → Text → Option (TokenKind × ℕ)
 numeral_at digits rest = if nat_lt (value_from 0 digits) (2 ^ 63) && ends_numeral rest then Some (kind.Numeral (pos (value_from 0 digits)), length digits) else None
 
+abbrev pub begins_with_quote : Text → Bool
+begins_with_quote [] = false
+begins_with_quote (b ∷ bs) = b == 34
+
 -- A string ends with a quote.
 abbrev pub quoted_at : Text → Text → Option (TokenKind × ℕ)
-quoted_at inside [] = None
-quoted_at inside (b ∷ rest) = if b == 34 then Some (kind.Quoted inside, length inside + 2) else None
+quoted_at inside rest = if begins_with_quote rest then Some (kind.Quoted inside, length inside + 2) else None
 
 abbrev pub symbol_at : Option Symbol → Option (TokenKind × ℕ)
 symbol_at None = None
@@ -78,6 +84,13 @@ unfoldable pub token_at : Text → Option (TokenKind × ℕ)
 token_at [] = None
 token_at (b ∷ rest) = token_from b rest
 
+-- a token that stands at the front of a text, the bytes that it takes, and the text behind it
+pub record IsNext (text : Text) (k : TokenKind) (n : ℕ) (rest : Text) : Type 0 where
+  pub is : token_at text ≡ Some (k, n)
+  pub behind : rest ≡ drop n text
+  pub some : 0 < n
+  pub size : n + length rest ≡ length text
+
 abbrev pub place : ℕ → ℕ → Pos
 place line column = record { «module» = 0; line = line; column = column }
 
@@ -88,3 +101,12 @@ pub data Cut : ℕ → ℕ → Text → List Token → Type 0 where
   line_end : {line column : ℕ} {text : Text} {tokens : List Token} → Cut (line + 1) 1 text tokens → Cut line column (10 ∷ text) tokens
   token : {line column : ℕ} {text : Text} {tokens : List Token} (k : TokenKind) (n : ℕ) → token_at text ≡ Some (k, n) → Cut line (column + n) (drop n text) tokens
       → Cut line column text (record { pos = place line column; kind = k } ∷ tokens)
+
+-- no tokens are cut from a text
+abbrev pub NotCut : ℕ → ℕ → Text → Type 0
+NotCut line column text = (tokens : List Token) → Cut line column text tokens → ⊥
+
+abbrev pub Cuts : Text → Result (List Token) ReadError → Type 0
+Cuts text (Ok tokens) = Cut 1 1 text tokens
+Cuts text (Err NotOfThisForm) = NotCut 1 1 text
+Cuts text (Err NoMemory) = Unit {0}
