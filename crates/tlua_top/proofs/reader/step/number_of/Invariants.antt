@@ -1,4 +1,4 @@
-use Rattle.std.proofs.Common.{◌≡◌, length}
+use Rattle.std.proofs.Common.{◌≡◌, ◌≤◌, length}
 use Rattle.tlua_top.specs.Grammar.{number_of}
 use Rattle.tlua_top.specs.Reader.{names_of}
 use Rattle.tlua_top.proofs.reader.step.number_of.Given as goal
