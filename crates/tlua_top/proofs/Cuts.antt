@@ -42,11 +42,6 @@ pub line_goes : {line column : ℕ} {text : Text} {tokens : List Token} → Cut 
 line_goes (line_end c) = c
 line_goes (token k n is c) = cc (line_stops _)
 
-pub stuck : {line column : ℕ} (b : ℕ) (text : Text) → (b ≡ 32 → ⊥) → (b ≡ 10 → ⊥) → token_at (b ∷ text) ≡ None → NotCut line column (b ∷ text)
-stuck b text s l none tokens (space c) = s refl
-stuck b text s l none tokens (line_end c) = l refl
-stuck b text s l none tokens (token k n is c) = cc
-
 pub cut_once : {line column : ℕ} {text : Text} {a b : List Token} → Cut line column text a → Cut line column text b → a ≡ b
 cut_once finish finish = refl
 cut_once finish (token k n is c) = cc end_stops
@@ -79,6 +74,3 @@ module _ (line column : ℕ) (text rest : Text) where
 
   pub token_none : (k : TokenKind) (n : ℕ) → IsNext text k n rest → NotCut line (column + n) rest → NotCut line column text
   token_none k n next none ts c = let g = token_goes k n next.is c in none g.rest (subst (λ x. Cut line (column + n) x g.rest) (sym next.behind) g.cut)
-
-  pub stops : (b : ℕ) → text ≡ b ∷ rest → (b ≡ 32 → ⊥) → (b ≡ 10 → ⊥) → token_at text ≡ None → NotCut line column text
-  stops b is s l none = let here : token_at (b ∷ rest) ≡ None = ap token_at (sym is) ∙ none in subst (NotCut line column) (sym is) (stuck b rest s l here)

@@ -18,6 +18,7 @@ use Rattle.tlua_top.specs.Tokens.{Text}
 use Rattle.tlua_top.specs.Grammar.{Tokens, Names, at, number_of, atom_of, atom_at, type_of, Product, atom, times, Sum, product, plus, minus, Spells, Arguments, one, more, Statement, printing, declaring, typing as with_annotation, assigning, Block, empty, next}
 use Rattle.tlua_top.specs.Machine as m
 use Rattle.tlua_top.specs.Machine.{Chain, Goal, argument, initial, stored, Stage, Config, fresh, added, multiplied, goes, closed, begin, begin_name, begin_word, begin_after, comma, close, signed, had, wanted, opened, name_found, behind_name, with_type, type_found, equals, step, step_at, last, last_at, then_run, run}
+use Rattle.tlua_top.specs.Reading.{start}
 
 -- the sum to the left of a product, with its sign
 pub data Left (names : Names) : Option (Exp × Operator) → ℕ → Tokens → Type 0 where
@@ -250,10 +251,6 @@ run_holds (t ∷ ts) c p h = onward (step c t) (step_holds c t p h) (λ d. run_h
         → Reached (λ r. Block [] r.1 (p ++ t ∷ ts) r.0) (then_run o (λ d. run d ts))
     onward None g f = tt
     onward (Some d) g f = subst (λ x. Reached (λ r. Block [] r.1 x r.0) (run d ts)) (append_assoc p (t ∷ []) ts) (f d g)
-
--- the beginning of a module
-abbrev pub start : Config
-start = record { names = []; lines = []; stage = m.between }
 
 pub spelled : (ts : Tokens) (names : Names) (lines : List Line) → run start ts ≡ Some (names, lines) → Block [] lines ts names
 spelled ts names lines is = subst (Reached (λ r. Block [] r.1 ts r.0)) is (run_holds ts start [] (record { front = []; inside = []; is = refl; block = empty; stage = between }))
