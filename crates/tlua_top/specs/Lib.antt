@@ -1,4 +1,6 @@
 pub mod Grammar
 pub mod Machine
+pub mod Outcome
+pub mod Output
 pub mod Reader
 pub mod Tokens
