@@ -1,4 +1,5 @@
 pub mod Cuts
+pub mod Endings
 pub mod Modules
 pub mod Reading
 pub mod Sizes

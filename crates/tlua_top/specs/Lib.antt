@@ -1,5 +1,7 @@
 pub mod Grammar
 pub mod Machine
+pub mod Outcome
+pub mod Output
 pub mod Reader
 pub mod Reading
 pub mod Tokens

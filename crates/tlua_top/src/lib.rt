@@ -1,4 +1,8 @@
 //! The top call of tlua: from the words to the exit status.
 #![tactic(auto)]
 
+mod output;
 mod reader;
+mod status;
+
+pub use status::Status;
