@@ -1,0 +1,4 @@
+pub mod Meaning
+pub mod Program
+pub mod State
+pub mod Values

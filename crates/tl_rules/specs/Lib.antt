@@ -1,0 +1,4 @@
+pub mod Checked
+pub mod Crossings
+pub mod Rules
+pub mod Types
