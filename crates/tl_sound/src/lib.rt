@@ -1,13 +1,7 @@
-// A library with one function.
+//! What the check promises of a run: the soundness laws, over the typing rules and the meaning alone. Nothing here computes anything:
+//! each contract is a law.
 #![tactic(auto)]
 
-ghost use Rattle.std.specs.Prelude.{◌≡◌};
-ghost use Rattle.tl_sound.specs.Echo.{echo_of};
+mod laws;
 
-// The `ensures` clause is the contract: what `echo` returns is `echo_of` of its argument, a definition
-// in `specs/Echo.antt`, which a caller's clause can cite too.
-pub fn echo(x: usize) -> usize
-    ensures { result ≡ echo_of x }
-{
-    x
-}
+pub use laws::{errors_follow_marks, errors_name_crossings, marks_are_listed};
