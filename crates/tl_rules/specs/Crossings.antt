@@ -3,6 +3,7 @@ use Rattle.std.specs.Prelude.{ℕ, List, [], ◌∷◌, ◌++◌, flat_map, Cont
 use Rattle.std.specs.Ordering.{nat_cmp, ordering_then}
 use Rattle.std.specs.declared.cmp.Ordering.{Ordering}
 use Rattle.std.specs.List.Sorted.{IsStrictlySortedBy}
+use Rattle.tl_base.specs.declared.place.Pos.{Pos}
 use Rattle.tl_base.specs.declared.crossing.CrossKind.{CrossKind}
 use Rattle.tl_base.specs.declared.crossing.CrossKind.TheVariants as cross
 use Rattle.tl_base.specs.declared.crossing.Crossing.{Crossing}
@@ -34,12 +35,13 @@ kind_rank cross.Operand = 1
 kind_rank cross.Equal = 2
 kind_rank cross.Expose = 3
 
--- by module in the order of the command line, then line, column and kind
+-- by module in the order of the command line, then line and column
+abbrev pub place_order : Pos → Pos → Ordering
+place_order p q = ordering_then (nat_cmp p.module q.module) (ordering_then (nat_cmp p.line q.line) (nat_cmp p.column q.column))
+
+-- by place, then by kind
 abbrev pub crossing_order : Crossing → Crossing → Ordering
-crossing_order a b =
-    ordering_then (nat_cmp a.pos.module b.pos.module)
-    (ordering_then (nat_cmp a.pos.line b.pos.line)
-    (ordering_then (nat_cmp a.pos.column b.pos.column) (nat_cmp (kind_rank a.kind) (kind_rank b.kind))))
+crossing_order a b = ordering_then (place_order a.pos b.pos) (nat_cmp (kind_rank a.kind) (kind_rank b.kind))
 
 -- the list of these marks: in order, each once, and nothing else
 pub record IsCrossingList (marks list : List Crossing) : Type 0 where

@@ -1,7 +1,7 @@
 -- The typing rules, by recursion on the tree: an environment and a tree give a type, the environment afterwards and the marked tree,
 -- or the first premise that fails. Typing follows the order of evaluation. Marks in the given tree say nothing: the rules set them.
 -- The two orders are parameters, each a yes or no for a pair of types (`below` and `consistent` of `tl_types`).
-use Rattle.std.specs.Prelude.{ℕ, Bool, true, false, List, [], ◌∷◌, ◌++◌, Option, Some, None, slice_index_or, slice_set}
+use Rattle.std.specs.Prelude.{ℕ, Bool, true, false, List, [], ◌∷◌, ◌++◌, Option, Some, None, slice_set}
 use Rattle.tl_base.specs.declared.place.Pos.{Pos}
 use Rattle.tl_base.specs.declared.place.ModuleKind.{ModuleKind}
 use Rattle.tl_base.specs.declared.place.ModuleKind.TheVariants.{Typed, Untyped}
@@ -13,14 +13,9 @@ use Rattle.lua_tree.specs.Tree.{Exp, nothing, truth, integer, text, name, binary
 use Rattle.lua_tree.specs.Shape.{place_of}
 use Rattle.tl_types.specs.declared.types.Ty.{Ty}
 use Rattle.tl_types.specs.declared.types.Ty.TheVariants as ty
-use Rattle.tl_types.specs.Types.{general_form}
-use Rattle.tl_rules.specs.declared.local.Local.{Local}
 use Rattle.tl_rules.specs.Types.{type_named}
+use Rattle.tl_rules.specs.Locals.{Env, local_of, local_with, general_declared}
 use Rattle.tl_rules.specs.Checked.{Checked, fine, fault, then_check}
-
--- the locals by their numbers
-abbrev pub Env : Type 0
-Env = List Local
 
 pub record TypedExp : Type 0 where
   pub ty : Ty
@@ -43,10 +38,6 @@ pub record TypedLines : Type 0 where
 pub record Flowed : Type 0 where
   pub ty : Ty
   pub tree : Exp
-
--- a local that isn't there reads `nil`, and takes everything
-abbrev pub local_of : Env → ℕ → Local
-local_of env x = slice_index_or env x (record { declared = ty.Any; current = ty.Nil })
 
 abbrev pub truth_type : Bool → Ty
 truth_type true = ty.True
@@ -71,19 +62,6 @@ abbrev pub operation : Pos → Operator → TypedExp → TypedExp → Checked Ty
 operation p o a b =
     then_check (operand a.ty a.tree) (λ l. then_check (operand b.ty b.tree) (λ r.
     fine (record { ty = operation_type a.ty b.ty; env = b.env; tree = binary p o l r })))
-
--- a local declared `any` keeps the type `any`
-abbrev pub current_type : Ty → Ty → Ty
-current_type ty.Any known = ty.Any
-current_type declared known = known
-
--- without annotation: the general form of the value's type, and `any` for `nil`
-abbrev pub general_declared : Ty → Ty
-general_declared ty.Nil = ty.Any
-general_declared t = t
-
-abbrev pub local_with : Ty → Ty → Local
-local_with declared known = record { declared = declared; current = current_type declared known }
 
 module _ (below consistent : Ty → Ty → Bool) where
   -- a flow by whether the value's type is below the place's, and whether it is so in the consistent order
@@ -116,7 +94,7 @@ module _ (below consistent : Ty → Ty → Bool) where
   -- the next local, with an annotation or without, and the value of its initialiser
   abbrev pub declaration : Option TypeName → Pos → TypedExp → Checked TypedLine
   declaration None p v =
-      fine (record { env = v.env ++ local_with (general_declared (general_form v.ty)) v.ty ∷ []; tree = declare p None v.tree })
+      fine (record { env = v.env ++ local_with (general_declared v.ty) v.ty ∷ []; tree = declare p None v.tree })
   declaration (Some n) p v =
       then_check (flow v.ty (type_named n) v.tree) (λ f.
       fine (record { env = v.env ++ local_with (type_named n) f.ty ∷ []; tree = declare p (Some n) f.tree }))

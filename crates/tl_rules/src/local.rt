@@ -1,5 +1,6 @@
 ghost use Rattle.std.specs.Prelude.{◌≡◌};
 ghost use Rattle.tl_rules.specs.Types.{type_named};
+ghost use Rattle.tl_rules.specs.Locals.{general_declared, local_with};
 
 use crate::{Ty, TypeName};
 
@@ -8,6 +9,34 @@ use crate::{Ty, TypeName};
 pub struct Local {
     pub declared: Ty,
     pub current: Ty,
+}
+
+impl Local {
+    /// A local of this declared type, into which a value of the type `known` was put. One that is declared `any` keeps the type `any`.
+    pub fn holding(declared: Ty, known: Ty) -> Local
+        ensures { result ≡ local_with declared known }
+    {
+        match declared {
+            Ty::Any => Local {
+                declared: Ty::Any,
+                current: Ty::Any,
+            },
+            declared => Local {
+                declared,
+                current: known,
+            },
+        }
+    }
+}
+
+/// The declared type of a local without annotation whose initialiser has this type.
+pub fn declared_for(initialiser: &Ty) -> Ty
+    ensures { result ≡ general_declared initialiser.now }
+{
+    match initialiser {
+        Ty::Nil => Ty::Any,
+        t => t.general(),
+    }
 }
 
 /// The type that a name stands for.

@@ -10,7 +10,8 @@ use Rattle.lua_tree.specs.Shape.{place_of}
 use Rattle.tl_types.specs.declared.types.Ty.{Ty}
 use Rattle.tl_types.specs.declared.types.Ty.TheVariants as ty
 use Rattle.tl_rules.specs.declared.local.Local.{Local}
-use Rattle.tl_rules.specs.Rules.{Env, local_of, truth_type, operation_type, current_type, local_with}
+use Rattle.tl_rules.specs.Locals.{Env, local_of, current_type, local_with}
+use Rattle.tl_rules.specs.Rules.{truth_type, operation_type}
 use Rattle.lua_meaning.specs.Values as value
 use Rattle.lua_meaning.specs.Values.{Value}
 use Rattle.lua_meaning.specs.State.{State, Ran, gives, raises, cut, write, pass}

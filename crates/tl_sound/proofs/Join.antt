@@ -8,7 +8,8 @@ use Rattle.lua_tree.specs.Tree.{Exp, nothing, truth, integer, text, name, binary
 use Rattle.tl_types.specs.declared.types.Ty.{Ty}
 use Rattle.tl_types.specs.declared.types.Ty.TheVariants as ty
 use Rattle.tl_rules.specs.Types.{type_named}
-use Rattle.tl_rules.specs.Rules.{Env, TypedExp, TypedExps, TypedLine, TypedLines, Flowed, local_of, operand, operation, flow_by, flow, check_exp, check_arguments, declaration, assignment, check_line, check_lines}
+use Rattle.tl_rules.specs.Locals.{Env, local_of}
+use Rattle.tl_rules.specs.Rules.{TypedExp, TypedExps, TypedLine, TypedLines, Flowed, operand, operation, flow_by, flow, check_exp, check_arguments, declaration, assignment, check_line, check_lines}
 use Rattle.tl_sound.proofs.Runs.{Given, given_then}
 use Rattle.tl_sound.proofs.Forms.{Fits, FitsAll, Steps, StepsAll, fits_nothing, fits_truth, fits_integer, fits_text, fits_name, fits_marked, fits_literal, fits_binary, fits_none, fits_more, steps_print, steps_declare, steps_assign, steps_none, steps_more}
 

@@ -8,7 +8,8 @@ use Rattle.lua_tree.specs.Tree.{Line}
 use Rattle.tl_types.specs.Order.{below, consistent}
 use Rattle.tl_rules.specs.Checked.{Checked, fine}
 use Rattle.tl_rules.specs.Crossings.{module_marks, IsCrossingList}
-use Rattle.tl_rules.specs.Rules.{Env, check_lines, check_module}
+use Rattle.tl_rules.specs.Locals.{Env}
+use Rattle.tl_rules.specs.Rules.{check_lines, check_module}
 use Rattle.lua_meaning.specs.State.{KindError, Ran, gives, raises, cut, turn}
 use Rattle.lua_meaning.specs.Meaning.{Frame, exec_all}
 use Rattle.lua_meaning.specs.Program.{Module, main_body, meaning, start, result_of}

@@ -2,8 +2,10 @@
 #![tactic(auto)]
 
 mod order;
+mod text;
 mod types;
 
 pub use order::Flow;
+pub use text::Text;
 pub use types::Ty;
 use tl_base::{Bytes, NoMemory};

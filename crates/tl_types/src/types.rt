@@ -1,8 +1,7 @@
 ghost use Rattle.std.specs.Prelude.{◌≡◌, IfOk};
 ghost use Rattle.tl_types.specs.Types.{general_form};
 
-use crate::{Bytes, NoMemory};
-use std::alloc::Global;
+use crate::{NoMemory, Text};
 
 /// A type.
 #[derive(Debug, Drop)]
@@ -17,7 +16,7 @@ pub enum Ty {
     IntegerLiteral(i64),
     String,
     /// one string alone
-    StringLiteral(Bytes),
+    StringLiteral(Text),
     /// every value, of which nothing is known
     Value,
     /// every value, trusted to be what its use asks for
@@ -39,8 +38,8 @@ impl Ty {
         }
     }
 
-    /// The same type once more.
-    pub fn copy(&self, alloc: Global) -> Result<Ty, NoMemory>
+    /// The same type once more. A literal's string is shared.
+    pub fn copy(&self) -> Result<Ty, NoMemory>
         ensures { IfOk result (λ t. t ≡ self.now) }
     {
         Ok(match self {
@@ -51,7 +50,7 @@ impl Ty {
             Ty::Integer => Ty::Integer,
             Ty::IntegerLiteral(n) => Ty::IntegerLiteral(*n),
             Ty::String => Ty::String,
-            Ty::StringLiteral(s) => Ty::StringLiteral(Bytes::from_slice(alloc, s.as_slice())?),
+            Ty::StringLiteral(s) => Ty::StringLiteral(s.share()?),
             Ty::Value => Ty::Value,
             Ty::Any => Ty::Any,
         })

@@ -1,0 +1,6 @@
+//! The check of a module.
+#![tactic(auto)]
+
+mod check;
+
+pub use check::{Checked, check_chunk};
