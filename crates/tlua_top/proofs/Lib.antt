@@ -1,1 +1,2 @@
 mod CrossingList
+mod Loops
