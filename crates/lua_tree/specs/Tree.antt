@@ -45,13 +45,3 @@ line_of (stat.Assign p x e) = assign p x (exp_of e)
 
 abbrev pub lines_of : List Stat → List Line
 lines_of ss = map line_of ss
-
--- the place of an expression is that of its first token
-abbrev pub place_of : Exp → Pos
-place_of (nothing p) = p
-place_of (truth p b) = p
-place_of (integer p n) = p
-place_of (text p s) = p
-place_of (name p x) = p
-place_of (binary p o a b) = p
-place_of (mark k e) = place_of e

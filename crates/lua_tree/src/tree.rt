@@ -1,5 +1,6 @@
 ghost use Rattle.std.specs.Prelude.{◌≡◌};
-ghost use Rattle.lua_tree.specs.Tree.{exp_of, place_of};
+ghost use Rattle.lua_tree.specs.Shape.{place_of};
+ghost use Rattle.lua_tree.specs.Tree.{exp_of};
 
 use tl_base::{Boxed, Bytes, CrossKind, List, ModuleKind, Pos};
 

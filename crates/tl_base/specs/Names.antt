@@ -17,3 +17,6 @@ abbrev pub code_name : RefusalCode → List ℕ
 code_name code.X1 = codes "X1"
 code_name code.G6 = codes "G6"
 code_name code.L5 = codes "L5"
+code_name code.F1 = codes "F1"
+code_name code.F2 = codes "F2"
+code_name code.F14 = codes "F14"

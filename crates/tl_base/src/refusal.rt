@@ -13,6 +13,12 @@ pub enum RefusalCode {
     G6,
     /// a file longer than 1048576 bytes
     L5,
+    /// a value that doesn't flow to its place
+    F1,
+    /// an operand that the operation doesn't take
+    F2,
+    /// an operand of type `value`
+    F14,
 }
 
 impl RefusalCode {
@@ -24,6 +30,9 @@ impl RefusalCode {
             RefusalCode::X1 => "X1",
             RefusalCode::G6 => "G6",
             RefusalCode::L5 => "L5",
+            RefusalCode::F1 => "F1",
+            RefusalCode::F2 => "F2",
+            RefusalCode::F14 => "F14",
         }
     }
 }

@@ -1,3 +1,4 @@
+pub mod Check
 pub mod Grammar
 pub mod Machine
 pub mod Outcome

@@ -1,0 +1,6 @@
+//! The meaning of programs, as definitions: so far of straight-line modules.
+#![tactic(auto)]
+
+mod laws;
+
+pub use laws::marks_change_records_alone;

@@ -1,0 +1,10 @@
+//! The typing rules of typed modules, as definitions that the check's contract and the soundness law cite: so far straight-line modules.
+#![tactic(auto)]
+
+mod laws;
+mod local;
+
+pub use laws::crossing_lists_are_unique;
+pub use local::{Local, declared_for, named_type};
+use lua_tree::TypeName;
+use tl_types::Ty;

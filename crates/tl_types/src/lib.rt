@@ -1,0 +1,11 @@
+//! The types of typed modules, their general forms and the two orders between them: so far the types without components.
+#![tactic(auto)]
+
+mod order;
+mod text;
+mod types;
+
+pub use order::Flow;
+pub use text::Text;
+pub use types::Ty;
+use tl_base::{Bytes, NoMemory};
