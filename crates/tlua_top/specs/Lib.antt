@@ -1,5 +1,7 @@
 pub mod Check
+pub mod Defined
 pub mod Grammar
+pub mod Lines
 pub mod Machine
 pub mod Outcome
 pub mod Output

@@ -4,6 +4,8 @@
 mod check;
 mod output;
 mod reader;
+mod report;
 mod status;
+mod words;
 
 pub use status::Status;
