@@ -26,7 +26,7 @@ pub data Line : Type 0 where
   declare : Pos → Option TypeName → Exp → Line
   assign : Pos → ℕ → Exp → Line
 
-abbrev exp_at : Expr-F Exp → Exp
+abbrev pub exp_at : Expr-F Exp → Exp
 exp_at (open_expr.Nil p) = nothing p
 exp_at (open_expr.Bool p b) = truth p b
 exp_at (open_expr.Int p n) = integer p n

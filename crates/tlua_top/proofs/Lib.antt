@@ -4,5 +4,6 @@ pub mod Endings
 pub mod Loops
 pub mod Modules
 pub mod Reading
+pub mod Runs
 pub mod Sizes
 pub mod Spelling

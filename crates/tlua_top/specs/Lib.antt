@@ -1,5 +1,6 @@
 pub mod Check
 pub mod Defined
+pub mod Ended
 pub mod Grammar
 pub mod Lines
 pub mod Machine
@@ -7,4 +8,5 @@ pub mod Outcome
 pub mod Output
 pub mod Reader
 pub mod Reading
+pub mod Runs
 pub mod Tokens

@@ -2,10 +2,15 @@
 #![tactic(auto)]
 
 mod check;
+mod deliver;
+mod ended;
 mod output;
 mod reader;
 mod report;
+mod run;
 mod status;
+mod top;
 mod words;
 
 pub use status::Status;
+pub use top::tlua;

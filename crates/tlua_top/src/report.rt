@@ -1,4 +1,5 @@
 ghost use Rattle.std.specs.Prelude.{◌≡◌, ◌<◌, ◌++◌, flat_map, decimal, IfOk, OnOk};
+ghost use Rattle.std.specs.Fmt.{signed_decimal};
 ghost use Rattle.tlua_top.specs.Lines.{place_text, refusal_line, crossing_text, crossing_line, crossing_lines, escaped, hex_digit};
 
 use std::alloc::Global;
@@ -92,4 +93,12 @@ pub fn push_error_text(to: &mut Bytes, text: &[u8]) -> Result<(), NoMemory>
         push_escaped(to, *byte)?;
     }
     Ok(())
+}
+
+/// Puts a number's decimal digits behind a text, with a minus where it is negative.
+pub fn push_signed(to: &mut Bytes, number: i64) -> Result<(), NoMemory>
+    ensures { OnOk result (to.new ≡ to.old ++ signed_decimal number) }
+{
+    let mut buffer = Buffer::new();
+    to.extend(buffer.format(number).as_bytes())
 }
