@@ -2,19 +2,21 @@
 #![tactic(auto)]
 
 mod disk;
+mod reading;
 mod retry;
-mod streams;
 #[cfg(test)]
 mod tests;
+mod writing;
 
 use disk::DiskFiles;
+use reading::Reading;
 use std::env;
 use std::io::{ErrorKind, Input};
 use std::process::ExitCode;
 use std::rt::Env;
-use streams::{Reading, Writing};
 use tl_base::NoMemory;
 use tlua_top::{Status, tlua};
+use writing::Writing;
 
 /// The words after the program's name. Where one of them isn't text, or the system doesn't give them, there are none.
 fn words_of<R: Env + AllocGlobal>(rt: &R) -> Result<Vec<String>, NoMemory> {
