@@ -183,7 +183,7 @@ fn of_file<F: Files>(alloc: Global, files: &mut F, file: &str, kind: ModuleKind)
 }
 
 /// What words ask for.
-pub fn ended<F: Files>(alloc: Global, words: &[String], files: &mut F) -> Result<Ended, Unknown> {
+pub fn settle<F: Files>(alloc: Global, words: &[String], files: &mut F) -> Result<Ended, Unknown> {
     match file_to_run(words) {
         None => Ok(usage(alloc)?),
         Some(file) => match kind_of_word(file) {

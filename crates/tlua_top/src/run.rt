@@ -42,7 +42,7 @@ pub struct Ran {
 }
 
 /// What the machine came to, and how.
-fn ran(machine: Machine, outcome: Outcome, turns: u64) -> Ran
+fn finished(machine: Machine, outcome: Outcome, turns: u64) -> Ran
 {
     let Machine { file: _, kind: _, output, mark: _, error } = machine;
     Ran {
@@ -66,12 +66,12 @@ pub fn run(alloc: Global, file: &[u8], chunk: &Chunk) -> Result<Ran, NoMemory>
     };
     let mut turns = Turns { left: BUDGET };
     if !turns.take() {
-        return Ok(ran(machine, Outcome::Spent, 0));
+        return Ok(finished(machine, Outcome::Spent, 0));
     }
     let used = BUDGET - turns.left;
     match execute_all(alloc, chunk.body.as_slice(), &mut machine) {
-        Ok(()) => Ok(ran(machine, Outcome::Normal, used)),
-        Err(Stop::Raised(text)) => Ok(ran(machine, Outcome::Failed(text), used)),
+        Ok(()) => Ok(finished(machine, Outcome::Normal, used)),
+        Err(Stop::Raised(text)) => Ok(finished(machine, Outcome::Failed(text), used)),
         Err(Stop::NoMemory) => Err(NoMemory),
     }
 }
