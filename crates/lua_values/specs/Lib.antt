@@ -1,0 +1,4 @@
+pub mod Integers
+pub mod Sameness
+pub mod Texts
+pub mod Values
