@@ -1,6 +1,7 @@
 -- A table (Lua 5.3 manual, section 2.1): its keys in the order in which they were first assigned, each once, with a value or removed.
-use Rattle.std.specs.Prelude.{◌≡◌, ℕ, zero, suc, ◌+◌, ◌-◌, ◌*◌, ◌^◌, ◌<◌, ℤ, pos, Bool, true, false, cond, List, [], ◌∷◌, map, length, drop, position, Option, None, Some, option_map}
-use Rattle.std.specs.Map.{lookup}
+use Rattle.std.specs.Prelude.{◌≡◌, ℕ, zero, suc, ◌+◌, ◌-◌, ◌<◌, ◌≤◌, pos, false, cond, List, [], ◌∷◌, length, drop, position, slice_index_or, slice_set, Option, None, Some, option_map}
+use Rattle.std.specs.Map.{lookup, keys_of}
+use Rattle.std.specs.List.{IsDistinct}
 use Rattle.std.specs.Option.{is_some}
 use Rattle.lua_values.specs.Values.{same_value, is_nil}
 use Rattle.lua_values.specs.declared.value.Value.{Value}
@@ -58,7 +59,7 @@ first_present (e ∷ es) = first_of e.0 e.1 (first_present es)
 
 -- the entries behind a key, none where it isn't listed
 abbrev pub behind : Entries → Value → Option Entries
-behind es k = option_map (λ i. drop (i + 1) es) (position (same_value k) (map (λ (e : Value × Option Value). e.0) es))
+behind es k = option_map (λ i. drop (i + 1) es) (position (same_value k) (keys_of es))
 
 -- one step of `next`: none for a key that is neither nil nor listed, and else the present entry behind it, if there is one
 abbrev pub next_of : Entries → Value → Option (Option (Value × Value))
@@ -87,13 +88,22 @@ border_from (suc steps) es n = cond (is_nil (get es (nth n))) n (border_from ste
 abbrev pub border : Entries → ℕ
 border es = border_from (length es) es 0
 
--- ---- a table, and several
+-- ---- tables
 
 -- each key is listed once
 abbrev pub AreDistinct : Entries → Type 0
-AreDistinct [] = Unit {0}
-AreDistinct (e ∷ es) = (listed_at es e.0 ≡ None) × AreDistinct es
+AreDistinct es = IsDistinct same_value (keys_of es)
 
 -- a new table
 abbrev pub no_contents : Contents
 no_contents = record { entries = []; meta = None }
+
+-- tables are numbered from 1 in the order of making
+abbrev pub IsMade : List Contents → ℕ → Type 0
+IsMade tables t = (1 ≤ t) × (t ≤ length tables)
+
+abbrev pub table_at : List Contents → ℕ → Contents
+table_at tables t = slice_index_or tables (t - 1) no_contents
+
+abbrev pub with_table : List Contents → ℕ → Contents → List Contents
+with_table tables t contents = slice_set tables (t - 1) contents
