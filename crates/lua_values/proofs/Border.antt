@@ -15,8 +15,7 @@ use Rattle.lua_values.specs.declared.value.Value.TheVariants.{Nil, Int}
 -- ---- as many entries as numbers that show values
 
 -- the keys from 1 to n, the greatest first
-numbers : ℕ → List Value
-unfolding numbers
+abbrev numbers : ℕ → List Value
 numbers zero = []
 numbers (suc n) = nth n ∷ numbers n
 
@@ -31,16 +30,76 @@ nth-injective m n e =
     let number : m + 1 ≡ n + 1 = cc in
     omega arith
 
-nth-apart : (m n : ℕ) → n < m → same_value (nth m) (nth n) ≡ false
-nth-apart m n h = apart_step m n (same_value (nth m) (nth n)) refl h
-
 apart_step : (m n : ℕ) (b : Bool) → same_value (nth m) (nth n) ≡ b → n < m → b ≡ false
 apart_step m n true same h = absurd (let e = nth-injective m n ((same_value-Decides (nth m) (nth n)).0 same) in omega arith)
 apart_step m n false same h = refl
+
+nth-apart : (m n : ℕ) → n < m → same_value (nth m) (nth n) ≡ false
+nth-apart m n h = apart_step m n (same_value (nth m) (nth n)) refl h
 
 numbers-below : (m n : ℕ) → n ≤ m → AllByRecursion (λ y. same_value (nth m) y ≡ false) (numbers n)
 numbers-below m zero h = tt
 numbers-below m (suc n) h = (nth-apart m n (omega arith), numbers-below m n (omega arith))
 
 distinct-numbers : (n : ℕ) → IsDistinct same_value (numbers n)
-distinct-numbers n = ?
+unfolding IsDistinct
+distinct-numbers zero = tt
+distinct-numbers (suc n) = IsDistinct-cons same_value (nth n) (numbers n) (numbers-below n n (omega arith)) (distinct-numbers n)
+
+shown_listed : (es : Entries) (k : Value) (o : Option (Option Value)) → listed_at es k ≡ o → is_nil (shown_at o) ≡ false → IsSome (listed_at es k)
+shown_listed es k None found shown = absurd (let e : true ≡ false = shown in cc)
+shown_listed es k (Some slot) found shown = ap is_some found
+
+-- a key that shows a value is listed
+pub listed-shown : (es : Entries) (k : Value) → is_nil (get es k) ≡ false → IsSome (listed_at es k)
+listed-shown es k shown = shown_listed es k (listed_at es k) refl shown
+
+listed_number : (es : Entries) (q : Value) (n : ℕ) (b : Bool) → same_value q (nth n) ≡ b → is_nil (get es (nth n)) ≡ false → (b || list_any (same_value q) (numbers n)) ≡ true
+    → (list_any (same_value q) (numbers n) ≡ true → IsSome (listed_at es q))
+    → IsSome (listed_at es q)
+listed_number es q n true same shown there more = ap (λ k. is_some (listed_at es k)) ((same_value-Decides q (nth n)).0 same) ∙ listed-shown es (nth n) shown
+listed_number es q n false same shown there more = more there
+
+listed_numbers : (es : Entries) (n : ℕ) → IsShownBelow es n → (q : Value) → list_any (same_value q) (numbers n) ≡ true → IsSome (listed_at es q)
+listed_numbers es zero shown q there = absurd (let e : false ≡ true = there in cc)
+listed_numbers es (suc n) shown q there =
+    listed_number es q n (same_value q (nth n)) refl (shown n (omega arith)) there (λ h. listed_numbers es n (λ k below. shown k (omega arith)) q h)
+
+-- so many numbers from 1 on show values that there are at least as many entries
+pub shown-length : (es : Entries) (n : ℕ) → IsShownBelow es n → n ≤ length es
+shown-length es n shown = omega (arith, length-le_from_keys same_value_equiv (numbers n) es (distinct-numbers n) (listed_numbers es n shown), length-numbers n)
+
+full_step : (es : Entries) (n : ℕ) (b : Bool) → is_nil (get es (nth n)) ≡ b → IsShownBelow es n → length es ≤ n → get es (nth n) ≡ Nil
+full_step es n true nothing shown full = (same_value-Decides (get es (nth n)) Nil).0 nothing
+full_step es n false present shown full =
+    let P : ℕ → Type 0 = λ k. is_nil (get es (nth k)) ≡ false in
+    absurd (let most = shown-length es (n + 1) (below_more P n shown present) in omega arith)
+
+-- where as many numbers as there are entries show values, the next shows nil
+pub full-nil : (es : Entries) (n : ℕ) → IsShownBelow es n → length es ≤ n → get es (nth n) ≡ Nil
+full-nil es n shown full = full_step es n (is_nil (get es (nth n))) refl shown full
+
+border_step : (steps : ℕ) (es : Entries) (n : ℕ) (b : Bool) → is_nil (get es (nth n)) ≡ b → IsShownBelow es n → (IsShownBelow es (n + 1) → IsBorder es (border_from steps es (n + 1)))
+    → IsBorder es (cond b n (border_from steps es (n + 1)))
+border_step steps es n true nothing shown more = record { at_end = (same_value-Decides (get es (nth n)) Nil).0 nothing; below = shown }
+border_step steps es n false present shown more =
+    let P : ℕ → Type 0 = λ k. is_nil (get es (nth k)) ≡ false in
+    more (below_more P n shown present)
+
+border_from-is : (steps : ℕ) (es : Entries) (n : ℕ) → IsShownBelow es n → length es ≤ n + steps → IsBorder es (border_from steps es n)
+border_from-is zero es n shown enough = record { at_end = full-nil es n shown (omega arith); below = shown }
+border_from-is (suc steps) es n shown enough = border_step steps es n (is_nil (get es (nth n))) refl shown (λ more. border_from-is steps es (n + 1) more (omega arith))
+
+-- the border is one: no number from 1 to it shows nil, and the next does
+pub border-is : (es : Entries) → IsBorder es (border es)
+border-is es = border_from-is (length es) es 0 (λ k h. absurd (omega arith)) (omega arith)
+
+not_below : (es : Entries) (m n : ℕ) → IsBorder es m → IsBorder es n → m < n → ⊥
+not_below es m n at_m at_n h =
+    let nothing : is_nil (get es (nth m)) ≡ true = ap is_nil at_m.at_end in
+    let present : is_nil (get es (nth m)) ≡ false = at_n.below m h in
+    cc
+
+-- and there is no other
+pub one_border : (es : Entries) (m n : ℕ) → IsBorder es m → IsBorder es n → m ≡ n
+one_border es m n at_m at_n = omega (arith, not_below es m n at_m at_n, not_below es n m at_n at_m)
