@@ -30,4 +30,4 @@ pub hex_next : (bs : List ℕ) (i n d : ℕ) → n ≡ digits_value 16 (take i b
     → (n * 16 % 2 ^ 64 + d) % 2 ^ 64 ≡ digits_value 16 (take (i + 1) bs) % 2 ^ 64
 hex_next bs i n d so_far h digit =
     ap (λ m. (m * 16 % 2 ^ 64 + d) % 2 ^ 64) so_far ∙ modulo_next (2 ^ 64) (digits_value 16 (take i bs)) d 16
-        ∙ ap (λ m. m % 2 ^ 64) (digits_next 16 bs i (digits_value 16 (take i bs)) d refl h digit)
+    ∙ ap (λ m. m % 2 ^ 64) (digits_next 16 bs i (digits_value 16 (take i bs)) d refl h digit)

@@ -145,13 +145,13 @@ behind_step e es k true h =
     let first : ℕ = 1 + position_or_len (same_value k) (keys_of es) in
     let most : ℕ = length (keys_of es) in
     ap (λ b. option_map (λ i. drop (i + 1) (e ∷ es)) (cond (nat_lt (cond (not b) first 0) (suc most)) (Some (cond (not b) first 0)) None)) h
-        ∙ ap (λ t. option_map (λ i. drop (i + 1) (e ∷ es)) (cond t (Some 0) None)) (let within : nat_lt 0 (suc most) ≡ true = lt-ltb 0 (suc most) (omega arith) in within)
+    ∙ ap (λ t. option_map (λ i. drop (i + 1) (e ∷ es)) (cond t (Some 0) None)) (let within : nat_lt 0 (suc most) ≡ true = lt-ltb 0 (suc most) (omega arith) in within)
 behind_step e es k false h =
     let n : ℕ = position_or_len (same_value k) (keys_of es) in
     let most : ℕ = length (keys_of es) in
     ap (λ b. option_map (λ i. drop (i + 1) (e ∷ es)) (cond (nat_lt (cond (not b) (1 + n) 0) (suc most)) (Some (cond (not b) (1 + n) 0)) None)) h
-        ∙ ap (λ t. option_map (λ i. drop (i + 1) (e ∷ es)) (cond t (Some (1 + n)) None)) (shift_test n most)
-        ∙ shift_step e es n (nat_lt n most)
+    ∙ ap (λ t. option_map (λ i. drop (i + 1) (e ∷ es)) (cond t (Some (1 + n)) None)) (shift_test n most)
+    ∙ shift_step e es n (nat_lt n most)
 
 -- behind the first entry stand the others
 pub behind-cons : (e : Value × Option Value) (es : Entries) (k : Value) → behind (e ∷ es) k ≡ cond (same_value k e.0) (Some es) (behind es k)

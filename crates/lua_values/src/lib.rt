@@ -14,3 +14,6 @@ pub use shown::{integer_text, raw_text};
 pub use text::Text;
 pub use value::Value;
 pub use values::Values;
+
+#[cfg(test)]
+mod tests;
