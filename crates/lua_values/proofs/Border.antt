@@ -1,11 +1,10 @@
 -- The laws of the border.
-use Rattle.std.proofs.Common.{◌≡◌, ◌≢◌, ℕ, zero, suc, ◌+◌, ◌-◌, ◌<◌, ◌≤◌, pos, Bool, true, false, cond, ◌||◌, List, [], ◌∷◌, length, Option, None, Some, refl, sym, ap, ◌∙◌, arith}
-use Rattle.std.specs.Map.{lookup}
+use Rattle.std.proofs.Common.{◌≡◌, ℕ, zero, suc, ◌+◌, ◌<◌, ◌≤◌, pos, Bool, true, false, cond, ◌||◌, List, [], ◌∷◌, length, Option, None, Some, refl, ap, ◌∙◌, arith}
 use Rattle.std.specs.Option.{is_some, IsSome}
 use Rattle.std.specs.List.{IsDistinct, AllByRecursion, list_any}
 use Rattle.std.proofs.lemmas.Map.Keys.{IsDistinct-cons}
 use Rattle.std.proofs.lemmas.Map.Steps.{length-le_from_keys}
-use borrow.Author.Count.{below_more, below_none}
+use borrow.Author.Count.{below_more}
 use Rattle.lua_values.specs.Values.{same_value, is_nil}
 use Rattle.lua_values.specs.Sameness.{same_value-Decides, same_value_equiv}
 use Rattle.lua_values.specs.Tables.{Entries, shown_at, listed_at, get, nth, IsShownBelow, IsBorder, border_from, border}

@@ -1,12 +1,12 @@
 -- Steps of the arithmetic on integers.
-use Rattle.std.proofs.Common.{◌≡◌, ℕ, zero, suc, ◌+◌, ◌-◌, ◌*◌, ◌/◌, ◌%◌, ◌^◌, ◌<◌, ◌≤◌, ℤ, pos, negsuc, ◌≤ℤ◌, ◌<ℤ◌, refl, sym, ap, ◌∙◌, Some, arith, FitsSigned, unsigned_abs, lit<, Bool, true, false}
+use Rattle.std.proofs.Common.{◌≡◌, ℕ, zero, suc, ◌+◌, ◌-◌, ◌*◌, ◌/◌, ◌%◌, ◌^◌, ◌<◌, ◌≤◌, ℤ, pos, negsuc, refl, sym, ap, ◌∙◌, Some, arith, FitsSigned, unsigned_abs, lit<, false}
 use lib.Signed.{lt_z}
 use Rattle.std.specs.Int.{w64, int_wrap}
 use Rattle.std.proofs.Math.Nat.{mul-mod_left, div-eq_of_lt, zero-div, div-le_self}
 use Rattle.std.proofs.Math.Pow.{pow_mono}
 use Rattle.std.proofs.lemmas.Nat.{pow-add}
 use Rattle.std.proofs.lemmas.Int.{ints}
-use Rattle.lua_values.specs.Integers.{word, bits_of, from_bits, floor_div, quotient, moved_left, moved_right}
+use Rattle.lua_values.specs.Integers.{word, bits_of, from_bits, quotient, moved_left, moved_right}
 
 times_mod : (x w j : ℕ) → (x * 2 ^ (w + j)) % 2 ^ w ≡ 0
 times_mod x w j =

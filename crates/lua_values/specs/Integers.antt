@@ -1,5 +1,5 @@
 -- Arithmetic on integers of 64 bits (Lua 5.3 manual, sections 3.4.1 and 3.4.2), by that on whole numbers.
-use Rattle.std.specs.Prelude.{ℕ, zero, suc, ◌+◌, ◌*◌, ◌/◌, ◌%◌, ◌^◌, ℤ, pos, negsuc, ◌-ℤ◌, ◌*ℤ◌, neg_ℤ, Option, None, Some}
+use Rattle.std.specs.Prelude.{ℕ, zero, suc, ◌*◌, ◌/◌, ◌%◌, ◌^◌, ℤ, pos, negsuc, ◌-ℤ◌, ◌*ℤ◌, Option, None, Some}
 use Rattle.std.specs.Int.{w64, int_wrap, cast_signed, cast_unsigned}
 
 -- the integer of 64 bits that differs from z by a multiple of 2 ^ 64

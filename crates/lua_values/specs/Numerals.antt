@@ -1,5 +1,5 @@
 -- Integer numerals (Lua 5.3 manual, section 3.1).
-use Rattle.std.specs.Prelude.{ℕ, ◌+◌, ◌*◌, ◌%◌, ◌^◌, nat_lt, nat_eq, Bool, cond, ◌&&◌, ◌||◌, List, drop, length, slice_index, ℤ, pos, Option, None, Some}
+use Rattle.std.specs.Prelude.{ℕ, ◌%◌, ◌^◌, nat_lt, nat_eq, Bool, cond, ◌&&◌, ◌||◌, List, drop, length, slice_index, ℤ, pos, Option, None, Some}
 use Rattle.std.specs.Char.{digit_value}
 use Rattle.std.specs.List.{list_all}
 use Rattle.std.specs.Str.Parse.{digits_value}

@@ -1,7 +1,7 @@
 -- That two values are the same exactly where they are equal, and that equal keys are hashed alike.
-use Rattle.std.specs.Prelude.{◌≡◌, ℕ, List, true, nat_eq}
+use Rattle.std.specs.Prelude.{◌≡◌, true}
 use Rattle.std.specs.Cmp.{IsEquivalence, IsPartialEquivalence, partial_equiv_from_equiv, decided, booleans_Decides, signed_Decides, unsigned_Decides}
-use Rattle.std.specs.Cmp.Lexicographic.{pointwise, pointwise_decides}
+use Rattle.std.specs.Cmp.Lexicographic.{pointwise_decides}
 use Rattle.std.specs.Bool.{Decides}
 use Rattle.std.proofs.Common.{ap, refl}
 use Rattle.lua_tree.specs.Names as library

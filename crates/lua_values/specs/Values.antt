@@ -1,5 +1,5 @@
 -- When two values are the same (Lua 5.3 manual, section 3.4.4, without metamethods), and what a table's hash reads of them.
-use Rattle.std.specs.Prelude.{ℕ, List, [], ◌∷◌, Bool, true, false, cond, nat_eq}
+use Rattle.std.specs.Prelude.{Bool, true, false, cond, nat_eq}
 use Rattle.std.specs.Hash as fed
 use Rattle.std.specs.Ordering.{int_eq}
 use Rattle.std.specs.Cmp.Lexicographic.{pointwise}

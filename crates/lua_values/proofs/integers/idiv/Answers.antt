@@ -1,4 +1,4 @@
-use Rattle.std.proofs.Common.{◌≡◌, ap, sym, ◌∙◌, pos, Some, FitsSigned, rules, w64, to_z, of_z, unsigned_abs}
+use Rattle.std.proofs.Common.{◌≡◌, ap, sym, ◌∙◌, pos, Some, FitsSigned, rules, w64, of_z, unsigned_abs}
 use Rattle.std.proofs.lemmas.Int.{to_z-of_z}
 use lib.Signed.{lt_z}
 use Rattle.lua_values.proofs.Words.{quotient-negatives}

@@ -1,4 +1,4 @@
-use Rattle.std.proofs.Common.{◌≡◌, ◌∙◌}
+use Rattle.std.proofs.Common.{◌∙◌}
 use Rattle.lua_values.proofs.Reading.{hex_next}
 use Rattle.lua_values.proofs.numerals.read_hex.Goals as goal
 
