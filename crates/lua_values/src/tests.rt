@@ -1,8 +1,10 @@
 use super::*;
 use lua_tree::LibName;
+use std::alloc::Global;
 use std::hash::{BuildHasher, BuildHasherDefault, DefaultHasher};
 use std::process::Abort;
 use std::test::Fail;
+use tl_base::NoMemory;
 
 const LEAST: i64 = i64::MIN;
 
@@ -173,28 +175,58 @@ fn numerals(rt: HostRuntime) {
     }
 }
 
+fn shows(rt: &impl Abort, alloc: Global, value: Value, want: &str) -> Result<(), Fail> {
+    let text = raw_text(alloc, &value)?;
+    assert_eq!(rt; text.bytes(), want.as_bytes());
+    Ok(())
+}
+
+fn sample(alloc: Global, index: usize) -> Result<Value, NoMemory> {
+    Ok(match index {
+        0 => Value::Nil,
+        1 => Value::Bool(true),
+        2 => Value::Bool(false),
+        3 => Value::Int(LEAST),
+        4 => Value::Int(0),
+        5 => Value::Int(GREATEST),
+        6 => Value::Table(12),
+        7 => Value::Closure(3),
+        8 => Value::Builtin(LibName::StringLen),
+        9 => Value::Builtin(LibName::IpairsStep),
+        _ => Value::Str(Text::new(alloc, b"hello")?),
+    })
+}
+
+const SHOWN: [&str; 11] = [
+    "nil",
+    "true",
+    "false",
+    "-9223372036854775808",
+    "0",
+    "9223372036854775807",
+    "table: 12",
+    "function: 3",
+    "builtin: string.len",
+    "builtin: ipairs step",
+    "hello",
+];
+
 #[test]
 fn texts_of_values(rt: HostRuntime) -> Result<(), Fail> {
-    let hello = Text::new(rt.alloc(), b"hello")?;
-    let greatest = integer_text(rt.alloc(), GREATEST)?;
-    assert_eq!(rt; greatest.bytes(), b"9223372036854775807".as_slice());
-    for (value, want) in [
-        (Value::Nil, "nil"),
-        (Value::Bool(true), "true"),
-        (Value::Bool(false), "false"),
-        (Value::Int(LEAST), "-9223372036854775808"),
-        (Value::Int(0), "0"),
-        (Value::Str(hello.share()?), "hello"),
-        (Value::Table(12), "table: 12"),
-        (Value::Closure(3), "function: 3"),
-        (Value::Builtin(LibName::StringLen), "builtin: string.len"),
-        (Value::Builtin(LibName::IpairsStep), "builtin: ipairs step"),
-    ] {
-        let text = raw_text(rt.alloc(), &value)?;
-        assert_eq!(rt; text.bytes(), want.as_bytes());
-        assert!(rt; value.copy()? == value, "a copy of {want}");
+    for (index, want) in SHOWN.iter().enumerate() {
+        let value = sample(rt.alloc(), index)?;
+        shows(&rt, rt.alloc(), value, want)?;
     }
+    let least = integer_text(rt.alloc(), LEAST)?;
+    assert_eq!(rt; least.bytes(), SHOWN[3].as_bytes());
     Ok(())
+}
+
+fn is_number(value: Option<&Value>, number: i64) -> bool {
+    match value {
+        Some(Value::Int(found)) => *found == number,
+        _ => false,
+    }
 }
 
 #[test]
@@ -205,13 +237,28 @@ fn values_in_a_row(rt: HostRuntime) -> Result<(), Fail> {
         values.push(Value::Int(number))?;
     }
     assert_eq!(rt; values.len(), 3);
-    assert!(rt; values.get(2) == Some(&Value::Int(2)));
-    assert!(rt; values.get(3).is_none());
     assert_eq!(rt; values.as_slice().len(), 3);
-    let hashes = BuildHasherDefault::<DefaultHasher>::new();
-    let name = Value::Str(Text::new(rt.alloc(), b"x")?);
-    assert!(rt; Value::default() == Value::Nil);
-    assert!(rt; Value::Int(1) != Value::Table(1));
-    assert_eq!(rt; hashes.hash_one(&name.copy()?), hashes.hash_one(&name));
+    assert!(rt; is_number(values.get(2), 2));
+    assert!(rt; values.get(3).is_none());
+    Ok(())
+}
+
+fn hash_of(value: &Value) -> u64 {
+    BuildHasherDefault::<DefaultHasher>::new().hash_one(value)
+}
+
+fn is_copied(rt: &impl Abort, value: Value) -> Result<(), Fail> {
+    let copy = value.copy()?;
+    assert!(rt; copy == value);
+    assert_eq!(rt; hash_of(&copy), hash_of(&value));
+    Ok(())
+}
+
+#[test]
+fn copies(rt: HostRuntime) -> Result<(), Fail> {
+    let text = Text::new(rt.alloc(), b"x")?;
+    is_copied(&rt, Value::Str(text))?;
+    is_copied(&rt, Value::default())?;
+    is_copied(&rt, Value::Builtin(LibName::Print))?;
     Ok(())
 }
