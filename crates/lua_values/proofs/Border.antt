@@ -1,5 +1,5 @@
 -- The laws of the border.
-use Rattle.std.proofs.Common.{◌≡◌, ℕ, zero, suc, ◌+◌, ◌<◌, ◌≤◌, pos, Bool, true, false, cond, ◌||◌, List, [], ◌∷◌, length, Option, None, Some, refl, ap, ◌∙◌, arith}
+use Rattle.std.proofs.Common.{◌≡◌, ℕ, zero, suc, ◌+◌, ◌<◌, ◌≤◌, pos, Bool, true, false, cond, ◌||◌, List, [], ◌∷◌, length, Option, None, Some, refl, sym, ap, ◌∙◌, arith, ◌-◌, ◌^◌, ◌≢◌, min, ⊎_elim}
 use Rattle.std.specs.Option.{is_some, IsSome}
 use Rattle.std.specs.List.{IsDistinct, AllByRecursion, list_any}
 use Rattle.std.proofs.lemmas.Map.Keys.{IsDistinct-cons}
@@ -7,7 +7,9 @@ use Rattle.std.proofs.lemmas.Map.Steps.{length-le_from_keys}
 use borrow.Author.Count.{below_more}
 use Rattle.lua_values.specs.Values.{same_value, is_nil}
 use Rattle.lua_values.specs.Sameness.{same_value-Decides, same_value_equiv}
-use Rattle.lua_values.specs.Tables.{Entries, shown_at, listed_at, get, nth, IsShownBelow, IsBorder, border_from, border}
+use Rattle.lua_values.specs.Tables.{Entries, shown_at, listed_at, get, nth, IsShownBelow, IsBorder, border_from, border, put}
+use Rattle.lua_values.proofs.Tables.{get-put_same, get-put_other}
+use Rattle.std.proofs.lemmas.Bool.{cases_lt}
 use Rattle.lua_values.specs.declared.value.Value.{Value}
 use Rattle.lua_values.specs.declared.value.Value.TheVariants.{Nil, Int}
 
@@ -102,3 +104,57 @@ not_below es m n at_m at_n h =
 -- and there is no other
 pub one_border : (es : Entries) (m n : ℕ) → IsBorder es m → IsBorder es n → m ≡ n
 one_border es m n at_m at_n = omega (arith, not_below es m n at_m at_n, not_below es n m at_n at_m)
+
+-- ---- how the border moves
+
+-- the number before a key that is a positive integer, and else a number past all those
+abbrev pub place_of : Value → ℕ
+place_of (Int (pos (suc n))) = n
+place_of _ = 2 ^ 64 - 1
+
+place-nth : (n : ℕ) → place_of (nth n) ≡ n
+place-nth n = ap (λ m. place_of (Int (pos m))) (let next : n + 1 ≡ suc n = omega arith in next)
+
+place-is : (k : Value) → place_of k < 2 ^ 64 - 1 → k ≡ nth (place_of k)
+place-is (Int (pos (suc n))) h = ap (λ m. Int (pos m)) (let next : suc n ≡ n + 1 = omega arith in next)
+place-is _ h = absurd (omega arith)
+
+apart_place : (k : Value) (b : ℕ) (t : Bool) → same_value (nth b) k ≡ t → place_of k ≢ b → t ≡ false
+apart_place k b true same apart = absurd (apart (ap place_of (sym ((same_value-Decides (nth b) k).0 same)) ∙ place-nth b))
+apart_place k b false same apart = refl
+
+apart-nth : (k : Value) (b : ℕ) → place_of k ≢ b → same_value (nth b) k ≡ false
+apart-nth k b apart = apart_place k b (same_value (nth b) k) refl apart
+
+stored_step : (es : Entries) (k v : Value) (j : ℕ) (t : Bool) → same_value (nth j) k ≡ t → is_nil v ≡ false → is_nil (get es (nth j)) ≡ false → is_nil (get (put es k (Some v)) (nth j)) ≡ false
+stored_step es k v j true same present shown = ap (λ q. is_nil (get (put es k (Some v)) q)) ((same_value-Decides (nth j) k).0 same) ∙ ap is_nil (get-put_same es k (Some v)) ∙ present
+stored_step es k v j false same present shown = ap is_nil (get-put_other es k (nth j) (Some v) same) ∙ shown
+
+-- a store hides no value
+pub shown-stored : (es : Entries) (k v : Value) (b : ℕ) → is_nil v ≡ false → IsShownBelow es b → IsShownBelow (put es k (Some v)) b
+shown-stored es k v b present shown = λ j h. stored_step es k v j (same_value (nth j) k) refl present (shown j h)
+
+-- a store elsewhere than at the border leaves it
+pub border-stored : (es : Entries) (k v : Value) (b : ℕ) → is_nil v ≡ false → IsBorder es b → place_of k ≢ b → IsBorder (put es k (Some v)) b
+border-stored es k v b present at apart =
+    record { at_end = get-put_other es k (nth b) (Some v) (apart-nth k b apart) ∙ at.at_end; below = shown-stored es k v b present at.below }
+
+removed_end : (es : Entries) (k : Value) (b n : ℕ) (t : Bool) → same_value (nth n) k ≡ t → IsBorder es b → b < 2 ^ 64 → n ≡ min b (place_of k) → get (put es k None) (nth n) ≡ Nil
+removed_end es k b n true same at small least = ap (get (put es k None)) ((same_value-Decides (nth n) k).0 same) ∙ get-put_same es k None
+removed_end es k b n false same at small least =
+    ⊎_elim
+    (λ less.
+    let number : nth n ≡ k = ap nth (let e : n ≡ place_of k = omega arith in e) ∙ sym (place-is k (omega arith)) in
+    let found : same_value (nth n) k ≡ true = (same_value-Decides (nth n) k).1 number in
+    absurd (let differ : true ≡ false = sym found ∙ same in cc))
+    (λ more. get-put_other es k (nth n) None same ∙ ap (λ m. get es (nth m)) (let e : n ≡ b = omega arith in e) ∙ at.at_end)
+    (cases_lt (place_of k) b)
+
+-- a removal lowers the border to the key, if that is a number below it
+pub border-after_removal : (es : Entries) (k : Value) (b : ℕ) → IsBorder es b → b < 2 ^ 64 → IsBorder (put es k None) (min b (place_of k))
+border-after_removal es k b at small =
+    let n : ℕ = min b (place_of k) in
+    record {
+      at_end = removed_end es k b n (same_value (nth n) k) refl at small refl;
+      below = λ j h. ap is_nil (get-put_other es k (nth j) None (apart-nth k j (λ e. omega arith))) ∙ at.below j (omega arith);
+    }

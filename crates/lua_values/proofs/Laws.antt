@@ -1,8 +1,10 @@
 -- The laws of the arithmetic on integers.
-use Rattle.std.proofs.Common.{◌≡◌, ℕ, zero, suc, ◌+◌, ◌*◌, ◌/◌, ◌%◌, ◌<◌, ℤ, pos, negsuc, ◌+ℤ◌, ◌*ℤ◌, ◌≤ℤ◌, ◌<ℤ◌, refl, None, arith, FitsSigned, ◌↔◌}
-use Rattle.std.specs.Int.{w64}
+use Rattle.std.proofs.Common.{◌≡◌, ℕ, zero, suc, ◌+◌, ◌*◌, ◌/◌, ◌%◌, ◌<◌, ℤ, pos, negsuc, ◌+ℤ◌, ◌*ℤ◌, ◌≤ℤ◌, ◌<ℤ◌, refl, ap, None, arith, ◌≤◌, ◌-◌, ◌^◌, ⊎_elim, FitsSigned, ◌↔◌}
+use Rattle.std.specs.Int.{w64, int_wrap}
 use Rattle.std.proofs.lemmas.Int.{ints, int_wrap_fits, SFits-int_wrap}
-use Rattle.lua_values.specs.Integers.{word, floor_div, floor_mod, quotient, remainder}
+use Rattle.std.proofs.lemmas.Bool.{cases_lt, le-ltb}
+use mir.Val.{sel}
+use Rattle.lua_values.specs.Integers.{word, from_bits, floor_div, floor_mod, quotient, remainder}
 
 -- a word is an integer of 64 bits, and such an integer is its own word
 pub word-fits : (z : ℤ) → FitsSigned w64 (word z)
@@ -40,3 +42,19 @@ pub remainder-none : (a b : ℤ) → (remainder a b ≡ None) ↔ (b ≡ pos 0)
 remainder-none a (pos zero) = (λ _. refl, λ _. refl)
 remainder-none a (pos (suc b)) = (λ e. cc, λ e. cc)
 remainder-none a (negsuc b) = (λ e. cc, λ e. cc)
+
+-- two whole numbers differ by a multiple of 2 ^ 64
+abbrev pub DifferByWords : ℤ → ℤ → Type 0
+DifferByWords a b = (j : ℕ) × (k : ℕ) × (a +ℤ pos (j * 2 ^ 64) ≡ b +ℤ pos (k * 2 ^ 64))
+
+high_bits : (n : ℕ) → 2 ^ 63 ≤ n → from_bits n ≡ negsuc (2 ^ 64 - suc n)
+high_bits n h = ap (λ b. sel b (pos n) (negsuc (2 ^ 64 - suc n))) (le-ltb n (2 ^ 63) h)
+
+from_bits-differs : (n : ℕ) → n < 2 ^ 64 → (k : ℕ) × (pos n ≡ from_bits n +ℤ pos (k * 2 ^ 64))
+from_bits-differs n small = ⊎_elim (λ below. (0, omega (arith, ints))) (λ above. let high : from_bits n ≡ negsuc (2 ^ 64 - suc n) = high_bits n above in (1, omega (arith, ints, high))) (cases_lt n (2 ^ 63))
+
+-- so a word and its number do
+pub word-differs : (z : ℤ) → DifferByWords z (word z)
+unfolding int_wrap
+word-differs (pos n) = let r = from_bits-differs (n % 2 ^ 64) (omega arith) in (0, n / 2 ^ 64 + r.0, omega (arith, ints, r.1))
+word-differs (negsuc n) = let r = from_bits-differs (2 ^ 64 - 1 - n % 2 ^ 64) (omega arith) in (n / 2 ^ 64 + 1, r.0, omega (arith, ints, r.1))
