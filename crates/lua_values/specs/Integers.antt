@@ -23,7 +23,7 @@ floor_div (negsuc a) (negsuc b) = pos (suc a / suc b)
 
 -- what is left of a then
 abbrev pub floor_mod : ℤ → ℤ → ℤ
-floor_mod a b = a -ℤ floor_div a b *ℤ b
+floor_mod a b = a -ℤ (floor_div a b *ℤ b)
 
 -- `a // b`, none for b = 0
 abbrev pub quotient : ℤ → ℤ → Option ℤ
