@@ -5,7 +5,7 @@ use Rattle.lua_tree.specs.declared.names.LibName.{LibName}
 use Rattle.lua_tree.specs.declared.names.Entry.{Entry}
 use Rattle.lua_tree.specs.declared.names.LibName.TheVariants as lib
 
--- the table and the key by which a program finds a name, or no table where the name stands alone
+-- the table and the key by which a program finds a name, the empty table where the name stands alone; none where no program can spell it
 abbrev pub spelling : LibName → Option (List ℕ × List ℕ)
 spelling lib.Print = Some ([], codes "print")
 spelling lib.TypeOf = Some ([], codes "type")
