@@ -16,4 +16,8 @@ cross_name cross.Expose = codes "expose"
 abbrev pub code_name : RefusalCode → List ℕ
 code_name code.X1 = codes "X1"
 code_name code.G6 = codes "G6"
+code_name code.L1 = codes "L1"
+code_name code.L2 = codes "L2"
+code_name code.L3 = codes "L3"
+code_name code.L4 = codes "L4"
 code_name code.L5 = codes "L5"

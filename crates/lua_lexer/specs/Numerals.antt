@@ -1,0 +1,49 @@
+-- Numerals (Lua 5.3 manual, 3.1 and 3.4.3).
+use Rattle.std.specs.Prelude.{ℕ, ◌+◌, ◌-◌, ◌*◌, ◌%◌, ◌^◌, Bool, true, false, ◌||◌, ◌&&◌, not, ◌==◌, nat_lt, ℤ, pos, negsuc, Option, Some, None, List, [], ◌∷◌, if◌then◌else◌, option_map}
+use Rattle.lua_lexer.specs.Letters.{Text, is_digit, is_word_byte, is_hex_digit, hex_value}
+
+-- `0x` or `0X` is at the front
+abbrev pub is_hexadecimal : Text → Bool
+is_hexadecimal (a ∷ b ∷ t) = a == 48 && (b == 120 || b == 88)
+is_hexadecimal _ = false
+
+-- a digit is at the front
+abbrev pub begins_with_digit : Text → Bool
+begins_with_digit [] = false
+begins_with_digit (b ∷ t) = is_digit b
+
+-- A numeral begins with a digit, or with `.` before a digit.
+abbrev pub begins_numeral : Text → Bool
+begins_numeral [] = false
+begins_numeral (b ∷ t) = is_digit b || (b == 46 && begins_with_digit t)
+
+-- a sign goes on a numeral directly after this byte: `e` in a decimal, `p` in a hexadecimal one
+abbrev pub is_exponent_mark : Bool → ℕ → Bool
+is_exponent_mark hexadecimal b = if hexadecimal then (b == 112 || b == 80) else (b == 101 || b == 69)
+
+-- Behind this last byte a numeral goes on with this one.
+abbrev pub in_numeral : Bool → ℕ → ℕ → Bool
+in_numeral hexadecimal last b = is_word_byte b || b == 46 || ((b == 43 || b == 45) && is_exponent_mark hexadecimal last)
+
+-- the value of decimal digits behind digits of this value, while it stays below 2^63
+abbrev pub decimal_from : ℕ → Text → Option ℕ
+decimal_from v [] = Some v
+decimal_from v (b ∷ t) = if is_digit b && nat_lt (10 * v + (b - 48)) (2 ^ 63) then decimal_from (10 * v + (b - 48)) t else None
+
+-- the value of hexadecimal digits behind digits of this value, modulo 2^64
+abbrev pub hexadecimal_from : ℕ → Text → Option ℕ
+hexadecimal_from v [] = Some v
+hexadecimal_from v (b ∷ t) = if is_hex_digit b then hexadecimal_from ((16 * v + hex_value b) % 2 ^ 64) t else None
+
+-- the integer of 64 bits in two's complement
+abbrev pub two_complement : ℕ → ℤ
+two_complement n = if nat_lt n (2 ^ 63) then pos n else negsuc (2 ^ 64 - 1 - n)
+
+-- the integer of digits behind `0x`, of which there is one at least
+abbrev pub hexadecimal_integer : Text → Option ℤ
+hexadecimal_integer (a ∷ x ∷ b ∷ t) = option_map two_complement (hexadecimal_from 0 (b ∷ t))
+hexadecimal_integer _ = None
+
+-- the integer of a numeral, if it is an integer numeral
+abbrev pub integer_of : Text → Option ℤ
+integer_of bs = if is_hexadecimal bs then hexadecimal_integer bs else option_map pos (decimal_from 0 bs)
