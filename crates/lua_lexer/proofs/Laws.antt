@@ -13,7 +13,7 @@ use Rattle.lua_lexer.specs.Spellings.{letters}
 use Rattle.lua_lexer.specs.Pieces.{Class, Wordlike, Numeral, Short, Long, Opening, Sign, Piece, Cut, IsLongest}
 use Rattle.lua_lexer.specs.Tokens.{Separator, Skips, Means, Lexes, Faults, Refuses, token_at}
 use Rattle.lua_lexer.specs.Brackets.{Opens}
-use Rattle.lua_lexer.proofs.Letters.{letters_once, spelling_not_empty}
+use Rattle.lua_lexer.proofs.Spelled.{letters_once, spelling_not_empty}
 use Rattle.lua_lexer.proofs.Once.{skips_two, reads_two, spoils_two, reads_or_spoils, opens_two, closes_levels, meant_two}
 
 cut_cases : {c d : Class} {r q : Text} → ((d ≡ c) × (q ≡ r)) ⊎ (length r < length q) → ((c ≡ d) × (r ≡ q)) ⊎ (length q < length r) → (d ≡ c) × (q ≡ r)

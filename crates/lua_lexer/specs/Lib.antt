@@ -6,3 +6,4 @@ pub mod Brackets
 pub mod Spellings
 pub mod Pieces
 pub mod Tokens
+pub mod Reading

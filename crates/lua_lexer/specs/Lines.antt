@@ -1,6 +1,7 @@
 -- Line ends and places. LF, CR, CRLF and LFCR are one line end each.
 use Rattle.std.specs.Prelude.{ℕ, ◌+◌, ◌-◌, Bool, ◌&&◌, ◌||◌, not, ◌==◌, Option, Some, None, List, [], ◌∷◌, length, take, if◌then◌else◌}
 use Rattle.tl_base.specs.declared.place.Pos.{Pos}
+use Rattle.lua_lexer.specs.declared.lines.Spot.{Spot}
 use Rattle.lua_lexer.specs.Letters.{Text, is_line_byte}
 
 -- what follows a line end that has begun with this byte: a second byte of the other kind belongs to it
@@ -17,12 +18,6 @@ behind_line_end (b ∷ t) = if is_line_byte b then Some (behind_line_byte b t) e
 abbrev pub to_line_end : Text → Text
 to_line_end [] = []
 to_line_end (b ∷ t) = if is_line_byte b then b ∷ t else to_line_end t
-
--- Where a text ends: line and column, each from 1, and the byte of a line end which one of the other kind would go on with (0: none).
-pub record Spot : Type 0 where
-  pub line : ℕ
-  pub column : ℕ
-  pub half : ℕ
 
 -- the first place of a file
 abbrev pub first_spot : Spot

@@ -39,11 +39,16 @@ hexadecimal_from v (b ∷ t) = if is_hex_digit b then hexadecimal_from ((16 * v 
 abbrev pub two_complement : ℕ → ℤ
 two_complement n = if nat_lt n (2 ^ 63) then pos n else negsuc (2 ^ 64 - 1 - n)
 
--- the integer of digits behind `0x`, of which there is one at least
-abbrev pub hexadecimal_integer : Text → Option ℤ
-hexadecimal_integer (a ∷ x ∷ b ∷ t) = option_map two_complement (hexadecimal_from 0 (b ∷ t))
-hexadecimal_integer _ = None
+-- the integer of hexadecimal digits, of which there is one at least
+abbrev pub digits_integer : Text → Option ℤ
+digits_integer [] = None
+digits_integer (b ∷ t) = option_map two_complement (hexadecimal_from 0 (b ∷ t))
+
+-- the text without its first two bytes
+abbrev pub behind_two : Text → Text
+behind_two (a ∷ b ∷ t) = t
+behind_two _ = []
 
 -- the integer of a numeral, if it is an integer numeral
 abbrev pub integer_of : Text → Option ℤ
-integer_of bs = if is_hexadecimal bs then hexadecimal_integer bs else option_map pos (decimal_from 0 bs)
+integer_of bs = if is_hexadecimal bs then digits_integer (behind_two bs) else option_map pos (decimal_from 0 bs)
