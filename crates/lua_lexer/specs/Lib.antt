@@ -7,3 +7,4 @@ pub mod Spellings
 pub mod Pieces
 pub mod Tokens
 pub mod Reading
+pub mod Escaped

@@ -2,6 +2,7 @@
 #![tactic(auto)]
 
 mod brackets;
+mod escapes;
 mod letters;
 mod lines;
 mod numerals;
