@@ -95,7 +95,7 @@ separator_shorter (Separator.bracket n o f) = let h = opens_shorter o in let k =
 pub comment_line : {t r : Text} → NeverOpens t → r ≡ to_line_end t → Comment t r
 comment_line {t = t} {r = r} out e = subst (λ x. Comment t x) (sym e) (Separator.line out)
 
-never_closes_at : {n m : ℕ} {u v : Text} → n ≡ m → u ≡ v → NeverCloses n u → NeverCloses m v
+pub never_closes_at : {n m : ℕ} {u v : Text} → n ≡ m → u ≡ v → NeverCloses n u → NeverCloses m v
 never_closes_at {n = n} {v = v} e h out = subst₂ (λ x y. NeverCloses x y) e h out
 
 no_comment_of : {n : ℕ} {s t u r : Text} → Opens n t u → NeverCloses n u → s ≡ 45 ∷ 45 ∷ t → Separator s r → ⊥

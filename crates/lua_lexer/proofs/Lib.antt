@@ -4,3 +4,6 @@ pub mod Laws
 pub mod Longest
 pub mod Maps
 pub mod Fences
+pub mod Parts
+pub mod Shorter
+pub mod Cuts

@@ -8,13 +8,13 @@ use Rattle.lua_lexer.specs.declared.token.Symbol.TheVariants as s
 use Rattle.lua_lexer.proofs.Spelled.{sized, spelling_once, spelling_not_empty}
 
 -- the text that a symbol of known spelling begins
-begun : (y : Symbol) (q : Text) {t bs : Text} → t ≡ spelling y ++ q → spelling y ≡ bs → t ≡ bs ++ q
+pub begun : (y : Symbol) (q : Text) {t bs : Text} → t ≡ spelling y ++ q → spelling y ≡ bs → t ≡ bs ++ q
 begun y q h e = h ∙ ap (λ x. x ++ q) e
 
-dots_begun : (y : Symbol) (q : Text) {t : Text} → t ≡ spelling y ++ q → y ≡ s.Dots → t ≡ 46 ∷ 46 ∷ 46 ∷ q
+pub dots_begun : (y : Symbol) (q : Text) {t : Text} → t ≡ spelling y ++ q → y ≡ s.Dots → t ≡ 46 ∷ 46 ∷ 46 ∷ q
 dots_begun y q h e = begun y q h (ap spelling e)
 
-longer : {r u : Text} (b : ℕ) → u ≡ b ∷ r → length r < length u
+pub longer : {r u : Text} (b : ℕ) → u ≡ b ∷ r → length r < length u
 longer {r = r} {u = u} b e = let h = ap length e in omega (arith, h)
 
 longer2 : (a b : ℕ) {r u : Text} → u ≡ a ∷ b ∷ r → length r < length u

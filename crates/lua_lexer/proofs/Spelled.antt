@@ -1,6 +1,6 @@
 -- Words and symbols are told apart by their spellings.
-use Rattle.std.proofs.Common.{◌≡◌, ℕ, Bool, true, false, ◌&&◌, ◌==◌, if◌then◌else◌, List, [], ◌∷◌, Option, Some, None, refl, ap, sym, ◌∙◌, codes, ◌++◌, ◌⊎◌, inl, inr}
-use Rattle.lua_lexer.specs.Letters.{Text}
+use Rattle.std.proofs.Common.{◌≡◌, ℕ, Bool, true, false, ◌&&◌, ◌==◌, if◌then◌else◌, List, [], ◌∷◌, Option, Some, None, refl, ap, sym, ◌∙◌, codes, not, length, ◌++◌, ◌⊎◌, inl, inr}
+use Rattle.lua_lexer.specs.Letters.{Text, is_letter, is_digit, is_quote}
 use Rattle.lua_lexer.specs.Spellings.{letters, spelling}
 use Rattle.lua_lexer.specs.declared.token.Symbol.{Symbol}
 use Rattle.lua_lexer.specs.declared.token.Symbol.TheVariants as s
@@ -187,3 +187,199 @@ sized s.Concat = inr (inl ((46, 46), refl))
 sized s.Dots = inr (inr refl)
 sized s.Question = inl (63, refl)
 sized s.Arrow = inr (inl ((45, 62), refl))
+
+abbrev pub second : Text → ℕ
+second (a ∷ b ∷ t) = b
+second _ = 0
+
+-- No symbol begins with what begins another token.
+pub no_letter : (y : Symbol) → is_letter (first (spelling y)) ≡ false
+no_letter s.Plus = refl
+no_letter s.Minus = refl
+no_letter s.Star = refl
+no_letter s.Slash = refl
+no_letter s.Percent = refl
+no_letter s.Caret = refl
+no_letter s.Hash = refl
+no_letter s.Ampersand = refl
+no_letter s.Tilde = refl
+no_letter s.Pipe = refl
+no_letter s.ShiftLeft = refl
+no_letter s.ShiftRight = refl
+no_letter s.DoubleSlash = refl
+no_letter s.Equal = refl
+no_letter s.NotEqual = refl
+no_letter s.LessEqual = refl
+no_letter s.GreaterEqual = refl
+no_letter s.Less = refl
+no_letter s.Greater = refl
+no_letter s.Assign = refl
+no_letter s.OpenParen = refl
+no_letter s.CloseParen = refl
+no_letter s.OpenBrace = refl
+no_letter s.CloseBrace = refl
+no_letter s.OpenBracket = refl
+no_letter s.CloseBracket = refl
+no_letter s.DoubleColon = refl
+no_letter s.Semicolon = refl
+no_letter s.Colon = refl
+no_letter s.Comma = refl
+no_letter s.Dot = refl
+no_letter s.Concat = refl
+no_letter s.Dots = refl
+no_letter s.Question = refl
+no_letter s.Arrow = refl
+
+pub no_digit : (y : Symbol) → is_digit (first (spelling y)) ≡ false
+no_digit s.Plus = refl
+no_digit s.Minus = refl
+no_digit s.Star = refl
+no_digit s.Slash = refl
+no_digit s.Percent = refl
+no_digit s.Caret = refl
+no_digit s.Hash = refl
+no_digit s.Ampersand = refl
+no_digit s.Tilde = refl
+no_digit s.Pipe = refl
+no_digit s.ShiftLeft = refl
+no_digit s.ShiftRight = refl
+no_digit s.DoubleSlash = refl
+no_digit s.Equal = refl
+no_digit s.NotEqual = refl
+no_digit s.LessEqual = refl
+no_digit s.GreaterEqual = refl
+no_digit s.Less = refl
+no_digit s.Greater = refl
+no_digit s.Assign = refl
+no_digit s.OpenParen = refl
+no_digit s.CloseParen = refl
+no_digit s.OpenBrace = refl
+no_digit s.CloseBrace = refl
+no_digit s.OpenBracket = refl
+no_digit s.CloseBracket = refl
+no_digit s.DoubleColon = refl
+no_digit s.Semicolon = refl
+no_digit s.Colon = refl
+no_digit s.Comma = refl
+no_digit s.Dot = refl
+no_digit s.Concat = refl
+no_digit s.Dots = refl
+no_digit s.Question = refl
+no_digit s.Arrow = refl
+
+pub no_quote : (y : Symbol) → is_quote (first (spelling y)) ≡ false
+no_quote s.Plus = refl
+no_quote s.Minus = refl
+no_quote s.Star = refl
+no_quote s.Slash = refl
+no_quote s.Percent = refl
+no_quote s.Caret = refl
+no_quote s.Hash = refl
+no_quote s.Ampersand = refl
+no_quote s.Tilde = refl
+no_quote s.Pipe = refl
+no_quote s.ShiftLeft = refl
+no_quote s.ShiftRight = refl
+no_quote s.DoubleSlash = refl
+no_quote s.Equal = refl
+no_quote s.NotEqual = refl
+no_quote s.LessEqual = refl
+no_quote s.GreaterEqual = refl
+no_quote s.Less = refl
+no_quote s.Greater = refl
+no_quote s.Assign = refl
+no_quote s.OpenParen = refl
+no_quote s.CloseParen = refl
+no_quote s.OpenBrace = refl
+no_quote s.CloseBrace = refl
+no_quote s.OpenBracket = refl
+no_quote s.CloseBracket = refl
+no_quote s.DoubleColon = refl
+no_quote s.Semicolon = refl
+no_quote s.Colon = refl
+no_quote s.Comma = refl
+no_quote s.Dot = refl
+no_quote s.Concat = refl
+no_quote s.Dots = refl
+no_quote s.Question = refl
+no_quote s.Arrow = refl
+
+-- No symbol goes on with a digit.
+pub no_second_digit : (y : Symbol) → is_digit (second (spelling y)) ≡ false
+no_second_digit s.Plus = refl
+no_second_digit s.Minus = refl
+no_second_digit s.Star = refl
+no_second_digit s.Slash = refl
+no_second_digit s.Percent = refl
+no_second_digit s.Caret = refl
+no_second_digit s.Hash = refl
+no_second_digit s.Ampersand = refl
+no_second_digit s.Tilde = refl
+no_second_digit s.Pipe = refl
+no_second_digit s.ShiftLeft = refl
+no_second_digit s.ShiftRight = refl
+no_second_digit s.DoubleSlash = refl
+no_second_digit s.Equal = refl
+no_second_digit s.NotEqual = refl
+no_second_digit s.LessEqual = refl
+no_second_digit s.GreaterEqual = refl
+no_second_digit s.Less = refl
+no_second_digit s.Greater = refl
+no_second_digit s.Assign = refl
+no_second_digit s.OpenParen = refl
+no_second_digit s.CloseParen = refl
+no_second_digit s.OpenBrace = refl
+no_second_digit s.CloseBrace = refl
+no_second_digit s.OpenBracket = refl
+no_second_digit s.CloseBracket = refl
+no_second_digit s.DoubleColon = refl
+no_second_digit s.Semicolon = refl
+no_second_digit s.Colon = refl
+no_second_digit s.Comma = refl
+no_second_digit s.Dot = refl
+no_second_digit s.Concat = refl
+no_second_digit s.Dots = refl
+no_second_digit s.Question = refl
+no_second_digit s.Arrow = refl
+
+-- No symbol of two bytes begins with `[`.
+pub bracket_alone : (y : Symbol) → ((first (spelling y) == 91) && not (length (spelling y) == 1)) ≡ false
+bracket_alone s.Plus = refl
+bracket_alone s.Minus = refl
+bracket_alone s.Star = refl
+bracket_alone s.Slash = refl
+bracket_alone s.Percent = refl
+bracket_alone s.Caret = refl
+bracket_alone s.Hash = refl
+bracket_alone s.Ampersand = refl
+bracket_alone s.Tilde = refl
+bracket_alone s.Pipe = refl
+bracket_alone s.ShiftLeft = refl
+bracket_alone s.ShiftRight = refl
+bracket_alone s.DoubleSlash = refl
+bracket_alone s.Equal = refl
+bracket_alone s.NotEqual = refl
+bracket_alone s.LessEqual = refl
+bracket_alone s.GreaterEqual = refl
+bracket_alone s.Less = refl
+bracket_alone s.Greater = refl
+bracket_alone s.Assign = refl
+bracket_alone s.OpenParen = refl
+bracket_alone s.CloseParen = refl
+bracket_alone s.OpenBrace = refl
+bracket_alone s.CloseBrace = refl
+bracket_alone s.OpenBracket = refl
+bracket_alone s.CloseBracket = refl
+bracket_alone s.DoubleColon = refl
+bracket_alone s.Semicolon = refl
+bracket_alone s.Colon = refl
+bracket_alone s.Comma = refl
+bracket_alone s.Dot = refl
+bracket_alone s.Concat = refl
+bracket_alone s.Dots = refl
+bracket_alone s.Question = refl
+bracket_alone s.Arrow = refl
+
+-- the first byte of a text that a symbol begins
+pub sign_first : (y : Symbol) (q : Text) {t u : Text} {b : ℕ} → t ≡ b ∷ u → t ≡ spelling y ++ q → b ≡ first (spelling y)
+sign_first y q h e = let k = e ∙ ap (λ x. x ++ q) (spelled y) in cc

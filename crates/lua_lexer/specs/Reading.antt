@@ -19,6 +19,11 @@ abbrev pub behind_numeral : Bool → ℕ → Text → Text
 behind_numeral hexadecimal last [] = []
 behind_numeral hexadecimal last (b ∷ t) = if in_numeral hexadecimal last b then behind_numeral hexadecimal b t else b ∷ t
 
+-- the text behind the bytes at its front that are allowed, each behind the one before it
+abbrev pub rest_of : (ℕ → ℕ → Bool) → ℕ → Text → Text
+rest_of allowed last [] = []
+rest_of allowed last (b ∷ t) = if allowed last b then rest_of allowed b t else b ∷ t
+
 -- The symbol is the longest that is spelled at the front.
 abbrev pub SignAt : Text → Symbol → Text → Type 0
 SignAt t x r = (t ≡ spelling x ++ r) × ((y : Symbol) (q : Text) → t ≡ spelling y ++ q → ((y ≡ x) × (q ≡ r)) ⊎ (length r < length q))

@@ -8,6 +8,7 @@ mod lines;
 mod numerals;
 mod separators;
 mod signs;
+mod strings;
 mod token;
 mod words;
 
