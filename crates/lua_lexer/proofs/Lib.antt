@@ -7,3 +7,5 @@ pub mod Fences
 pub mod Parts
 pub mod Shorter
 pub mod Cuts
+pub mod Tails
+pub mod Spots

@@ -7,7 +7,7 @@ use Rattle.lua_lexer.proofs.Once.{pair_parts}
 use Rattle.lua_lexer.proofs.Parts.{line_byte_shorter}
 
 -- one of the two
-if_some : {A : Type 0} (c : Bool) {x y : Option A} {z : A} → (if c then x else y) ≡ Some z → (x ≡ Some z) ⊎ (y ≡ Some z)
+pub if_some : {A : Type 0} (c : Bool) {x y : Option A} {z : A} → (if c then x else y) ≡ Some z → (x ≡ Some z) ⊎ (y ≡ Some z)
 if_some true h = inl h
 if_some false h = inr h
 

@@ -9,3 +9,4 @@ pub mod Tokens
 pub mod Reading
 pub mod Escaped
 pub mod Decoding
+pub mod Finding

@@ -59,3 +59,12 @@ Comment t r = Separator (45 ∷ 45 ∷ t) r
 
 abbrev pub NoComment : Text → Type 0
 NoComment t = (r : Text) → Separator (45 ∷ 45 ∷ t) r → ⊥
+
+-- The second text is an end of the first.
+abbrev pub EndsWith : Text → Text → Type 0
+EndsWith t r = (pre : Text) × (t ≡ pre ++ r)
+
+-- whether a comment with a long bracket begins
+abbrev pub IsCommentTest : Text → Bool → Type 0
+IsCommentTest x true = (t : Text) × (x ≡ 45 ∷ 45 ∷ t) × ((n : ℕ) × (u : Text) × Opens n t u)
+IsCommentTest x false = (t : Text) → x ≡ 45 ∷ 45 ∷ t → NeverOpens t

@@ -4,12 +4,15 @@
 mod brackets;
 mod escapes;
 mod letters;
+mod lexing;
 mod lines;
 mod numerals;
+mod pieces;
 mod separators;
 mod signs;
 mod strings;
 mod token;
 mod words;
 
+pub use lexing::lex;
 pub use token::{Keyword, Symbol, Token, TokenKind};

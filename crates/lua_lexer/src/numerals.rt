@@ -1,4 +1,4 @@
-ghost use Rattle.std.specs.Prelude.{◌≡◌, ◌<◌, ◌^◌, ℤ, MatchOption, IfSome, Option};
+ghost use Rattle.std.specs.Prelude.{◌≡◌, ◌<◌, ◌≤◌, ◌^◌, ℤ, MatchOption, IfSome, Option, length};
 ghost use Rattle.lua_lexer.specs.Numerals.{is_hexadecimal, begins_with_digit, is_exponent_mark, in_numeral, decimal_from, hexadecimal_from, two_complement, digits_integer, behind_two, integer_of};
 ghost use Rattle.lua_lexer.specs.Reading.{behind_numeral};
 
@@ -45,7 +45,8 @@ fn in_numeral(hexadecimal: bool, last: u8, byte: u8) -> bool
 
 /// What follows the bytes at the front that go on a numeral with this last byte.
 pub(crate) fn behind_numeral(hexadecimal: bool, last: u8, text: &[u8]) -> &[u8]
-    ensures { result.now ≡ behind_numeral hexadecimal last text.now }
+    ensures value { result.now ≡ behind_numeral hexadecimal last text.now }
+    ensures shorter { length result.now ≤ length text.now }
 {
     let mut before = last;
     let mut rest = text;

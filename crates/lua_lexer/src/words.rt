@@ -1,4 +1,4 @@
-ghost use Rattle.std.specs.Prelude.{◌≡◌, ◌<◌, ◌≢◌, MatchOption, length};
+ghost use Rattle.std.specs.Prelude.{◌≡◌, ◌≤◌, ◌≢◌, MatchOption, length};
 ghost use Rattle.lua_lexer.specs.Reading.{behind_word};
 ghost use Rattle.lua_lexer.specs.Spellings.{letters};
 ghost use Rattle.lua_lexer.specs.declared.token.Keyword.{Keyword};
@@ -9,7 +9,8 @@ use crate::lines::front;
 
 /// What follows the letters, digits and `_` at the front.
 pub(crate) fn behind_word(text: &[u8]) -> &[u8]
-    ensures { result.now ≡ behind_word text.now }
+    ensures value { result.now ≡ behind_word text.now }
+    ensures shorter { length result.now ≤ length text.now }
 {
     let mut rest = text;
     while let Some((byte, tail)) = front(rest) {
