@@ -98,7 +98,7 @@ word_longest {q = q} b l h (Piece.sign y e) = absurd (differ is_letter b _ l (no
 pub cut_word : {s t : Text} (b : ℕ) → is_letter b ≡ true → s ≡ b ∷ t → Cut Wordlike s (behind_word t)
 cut_word {s = s} {t = t} b l h = record {
   piece = subst₂ (λ x y. Piece Wordlike x y) (sym h) (sym (word_rest b t)) (Piece.word b l (rest_follows in_word b t));
-  longest = λ d q p. word_longest b l h p
+  longest = λ d q p. word_longest b l h p;
 }
 
 -- ---- numerals
@@ -160,7 +160,7 @@ numeral_longest {q = q} b l h (Piece.sign y e) = inr (numeral_sign y q b l h e (
 pub cut_numeral : {s t : Text} (b : ℕ) → begins_numeral (b ∷ t) ≡ true → s ≡ b ∷ t → Cut Numeral s (behind_numeral (is_hexadecimal (b ∷ t)) b t)
 cut_numeral {s = s} {t = t} b l h = record {
   piece = subst₂ (λ x y. Piece Numeral x y) (sym h) (sym (numeral_rest (is_hexadecimal (b ∷ t)) b t)) (Piece.numeral b l (rest_follows (in_numeral (is_hexadecimal (b ∷ t))) b t));
-  longest = λ d q p. numeral_longest b l h p
+  longest = λ d q p. numeral_longest b l h p;
 }
 
 -- ---- short strings
@@ -177,7 +177,7 @@ short_longest {q = q} b l h g (Piece.sign y e) = absurd (differ is_quote b _ l (
 pub cut_short : {s u r : Text} (b : ℕ) → is_quote b ≡ true → s ≡ b ∷ u → Ends b u r → Cut Short s r
 cut_short {s = s} {u = u} {r = r} b l h g = record {
   piece = subst (λ x. Piece Short x r) (sym h) (Piece.short b l g);
-  longest = λ d q p. short_longest b l h g p
+  longest = λ d q p. short_longest b l h g p;
 }
 
 unended_longest : {d : Class} {s u q : Text} (b : ℕ) → is_quote b ≡ true → s ≡ b ∷ u → NeverEnds b u → Piece d s q → ((d ≡ Opening) × (q ≡ u)) ⊎ (length u < length q)
@@ -193,7 +193,7 @@ unended_longest {q = q} b l h g (Piece.sign y e) = absurd (differ is_quote b _ l
 pub cut_unended : {s u : Text} (b : ℕ) → is_quote b ≡ true → s ≡ b ∷ u → NeverEnds b u → Cut Opening s u
 cut_unended {s = s} {u = u} b l h g = record {
   piece = subst (λ x. Piece Opening x u) (sym h) (Piece.quote b l);
-  longest = λ d q p. unended_longest b l h g p
+  longest = λ d q p. unended_longest b l h g p;
 }
 
 -- ---- long brackets
@@ -265,7 +265,7 @@ comment_longest {q = q} h o (Piece.sign y e) = inr (comment_sign y q h o e (size
 pub cut_comment : {n : ℕ} {s t u : Text} → s ≡ 45 ∷ 45 ∷ t → Opens n t u → Cut Opening s u
 cut_comment {n = n} {s = s} {u = u} h o = record {
   piece = subst (λ x. Piece Opening x u) (sym h) (Piece.comment n o);
-  longest = λ d q p. comment_longest h o p
+  longest = λ d q p. comment_longest h o p;
 }
 
 -- ---- symbols

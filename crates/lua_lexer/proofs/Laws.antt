@@ -1,17 +1,20 @@
 -- A text has at most one list of tokens, at most one first refusal, and not both.
-use Rattle.std.proofs.Common.{◌≡◌, ℕ, ◌<◌, Bool, true, false, ◌⊎◌, inl, inr, ◌==◌, List, [], ◌∷◌, length, Option, Some, None, refl, ap, ap₂, sym, ◌∙◌, subst, arith, ℤ}
+use Rattle.std.proofs.Common.{◌≡◌, ℕ, ◌<◌, Bool, true, false, ◌⊎◌, inl, inr, ◌==◌, List, [], ◌∷◌, length, Option, Some, None, refl, ap, ap₂, sym, ◌∙◌, subst, arith, ℤ, Result, Ok, Err, IfOk, IfErr}
 use Rattle.tl_base.specs.declared.refusal.RefusalCode.{RefusalCode}
 use Rattle.lua_lexer.specs.declared.token.Keyword.{Keyword}
 use Rattle.lua_lexer.specs.declared.token.Token.{Token}
 use Rattle.lua_lexer.specs.declared.token.TokenKind.{TokenKind}
 use Rattle.lua_lexer.specs.declared.token.TokenKind.TheVariants as kind
 use Rattle.lua_lexer.specs.Letters.{Text, is_quote}
-use Rattle.lua_lexer.specs.Lines.{span}
+use Rattle.lua_lexer.specs.Lines.{span, pos_at}
 use Rattle.lua_lexer.specs.Numerals.{integer_of}
 use Rattle.lua_lexer.specs.Strings.{Reads, Spoils}
 use Rattle.lua_lexer.specs.Spellings.{letters}
 use Rattle.lua_lexer.specs.Pieces.{Class, Wordlike, Numeral, Short, Long, Opening, Sign, Piece, Cut, IsLongest}
-use Rattle.lua_lexer.specs.Tokens.{Separator, Skips, Means, Lexes, Faults, Refuses, token_at}
+use Rattle.lua_lexer.specs.Tokens.{Separator, Skips, Means, Lexes, Faults, Refuses, token_at, Lexed, Refused, IsFailure, IsTokens, IsRefusal}
+use Rattle.tl_base.specs.declared.refusal.Refusal.{Refusal}
+use Rattle.tl_base.specs.declared.refusal.Failure.{Failure}
+use Rattle.tl_base.specs.declared.refusal.Failure.TheVariants as failure
 use Rattle.lua_lexer.specs.Brackets.{Opens}
 use Rattle.lua_lexer.proofs.Spelled.{letters_once, spelling_not_empty}
 use Rattle.lua_lexer.proofs.Once.{skips_two, reads_two, spoils_two, reads_or_spoils, opens_two, closes_levels, meant_two}
@@ -151,3 +154,27 @@ lexes_or_refuses h (Lexes.finish f) (Refuses.here g y) = no_fault_at_end (sym (s
 lexes_or_refuses h (Lexes.finish f) (Refuses.later g v m y) = no_piece_at_end (sym (skips_two h f g)) v.piece
 lexes_or_refuses h (Lexes.token f u l v) (Refuses.here g y) = means_or_fault (skips_two h f g) u l y
 lexes_or_refuses h (Lexes.token f u l v) (Refuses.later g w m y) = lexes_or_refuses (sym (cuts_two (skips_two h f g) u w).1) v y
+
+pub lexed_once : {file : ℕ} {text : Text} {xs ys : List Token} → Lexed file text xs → Lexed file text ys → xs ≡ ys
+lexed_once a b = lexes_two refl a.tokens b.tokens
+
+pub lexed_or_refused : {file : ℕ} {text : Text} {xs : List Token} {r : Refusal} → Lexed file text xs → Refused file text r → ⊥
+lexed_or_refused a (Refused.too_long h) = let k = a.fits in omega (arith, k, h)
+lexed_or_refused a (Refused.fault h f) = lexes_or_refuses refl a.tokens f
+
+pub refused_once : {file : ℕ} {text : Text} {q r : Refusal} → Refused file text q → Refused file text r → q ≡ r
+refused_once (Refused.too_long h) (Refused.too_long k) = refl
+refused_once (Refused.too_long h) (Refused.fault k g) = absurd (omega arith)
+refused_once (Refused.fault h f) (Refused.too_long k) = absurd (omega arith)
+refused_once {file = file} {text = text} (Refused.fault h f) (Refused.fault k g) = let e = refuses_two refl f g in ap₂ (λ x y. record { code = x; pos = pos_at file text y }) e.0 e.1
+
+-- what is answered is what is defined
+pub only_tokens : {file : ℕ} {text : Text} {ts : List Token} (r : Result (List Token) Failure) → IfOk r (λ us. Lexed file text us) → IfErr r (λ e. IsFailure file text e) → Lexed file text ts → IsTokens ts r
+only_tokens (Ok us) h k l = lexed_once h l
+only_tokens (Err failure.NoMemory) h k l = tt
+only_tokens (Err (failure.Refused r)) h k l = lexed_or_refused l k
+
+pub only_refusal : {file : ℕ} {text : Text} {q : Refusal} (r : Result (List Token) Failure) → IfOk r (λ us. Lexed file text us) → IfErr r (λ e. IsFailure file text e) → Refused file text q → IsRefusal q r
+only_refusal (Ok us) h k f = lexed_or_refused h f
+only_refusal (Err failure.NoMemory) h k f = tt
+only_refusal (Err (failure.Refused r)) h k f = refused_once k f

@@ -9,3 +9,4 @@ pub mod Shorter
 pub mod Cuts
 pub mod Tails
 pub mod Spots
+pub mod Founds

@@ -67,11 +67,11 @@ pub escape_shorter : (t : Text) {bs r : Text} → escape t ≡ Some (bs, r) → 
 escape_shorter [] h = cc
 escape_shorter (b ∷ t) {r = r} h =
     let g : length r ≤ length t =
-        either_le (if_some (b == 122) h) (λ k. to_le k (blanks_shorter t)) (λ h2.
-        either_le (if_some (b == 120) h2) (λ k. hex_shorter t k) (λ h3.
-        either_le (if_some (b == 117) h3) (λ k. unicode_shorter t k) (λ h4.
-        either_le (if_some (is_digit b) h4) (λ k. byte_shorter (digits_from 2 (b - 48) t) (digits_shorter 2 (b - 48) t) k) (λ h5.
-        either_le (if_some (is_line_byte b) h5) (λ k. to_le k (line_byte_shorter b t)) (λ k. letter_shorter (letter_escape b) t k))))) in
+    either_le (if_some (b == 122) h) (λ k. to_le k (blanks_shorter t)) (λ h2.
+    either_le (if_some (b == 120) h2) (λ k. hex_shorter t k) (λ h3.
+    either_le (if_some (b == 117) h3) (λ k. unicode_shorter t k) (λ h4.
+    either_le (if_some (is_digit b) h4) (λ k. byte_shorter (digits_from 2 (b - 48) t) (digits_shorter 2 (b - 48) t) k) (λ h5.
+    either_le (if_some (is_line_byte b) h5) (λ k. to_le k (line_byte_shorter b t)) (λ k. letter_shorter (letter_escape b) t k))))) in
     omega arith
 
 pub part_shorter : {q : ℕ} {t bs r : Text} → Part q t bs r → length r < length t

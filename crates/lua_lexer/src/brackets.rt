@@ -52,13 +52,7 @@ fn shutting(level: usize, text: &[u8]) -> Option<&[u8]>
             }
             match fence(b']', tail) {
                 None => None,
-                Some((count, rest)) => {
-                    if count == level {
-                        Some(rest)
-                    } else {
-                        None
-                    }
-                }
+                Some((count, rest)) => { if count == level { Some(rest) } else { None } }
             }
         }
     }

@@ -212,7 +212,12 @@ fn push_point(out: &mut Bytes, point: u32) -> Result<(), NoMemory>
     if point < 65536 {
         return out.extend(&[(224 + point / 4096) as u8, third, last]);
     }
-    out.extend(&[(240 + point / 262144) as u8, (128 + point / 4096 % 64) as u8, third, last])
+    out.extend(&[
+        (240 + point / 262144) as u8,
+        (128 + point / 4096 % 64) as u8,
+        third,
+        last,
+    ])
 }
 
 /// Puts what an escape means at the end.

@@ -55,7 +55,14 @@ fn place(all: &[u8], spot: Spot, from: &[u8], to: &[u8]) -> Spot
 }
 
 /// Reads the separators and the token at the front of the rest of the text.
-fn read_one<'a>(alloc: Global, module: u32, all: &[u8], tokens: &mut List<Token>, rest: &'a [u8], spot: Spot) -> Turn<'a>
+fn read_one<'a>(
+    alloc: Global,
+    module: u32,
+    all: &[u8],
+    tokens: &mut List<Token>,
+    rest: &'a [u8],
+    spot: Spot,
+) -> Turn<'a>
     requires fits { length all.now ≤ most }
     requires spot { spot ≡ spot_at all.now rest.now }
     requires rest { EndsWith all.now rest.now }

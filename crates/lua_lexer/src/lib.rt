@@ -11,8 +11,10 @@ mod pieces;
 mod separators;
 mod signs;
 mod strings;
+mod theorems;
 mod token;
 mod words;
 
 pub use lexing::lex;
+pub use theorems::{at_most_one_list, at_most_one_refusal, tokens_or_refusal};
 pub use token::{Keyword, Symbol, Token, TokenKind};

@@ -1,4 +1,5 @@
-ghost use Rattle.std.specs.Prelude.{◌≡◌, ◌<◌, ◌≤◌, ◌^◌, ℤ, MatchOption, IfSome, Option, length};
+ghost use Rattle.std.specs.Prelude.{◌≡◌, ◌<◌, ◌≤◌, ◌^◌, ℤ, MatchOption, IfSome, Option, FitsSigned, length};
+ghost use mir.Syntax.{w64};
 ghost use Rattle.lua_lexer.specs.Numerals.{is_hexadecimal, begins_with_digit, is_exponent_mark, in_numeral, decimal_from, hexadecimal_from, two_complement, digits_integer, behind_two, integer_of};
 ghost use Rattle.lua_lexer.specs.Reading.{behind_numeral};
 
@@ -40,7 +41,9 @@ fn is_exponent_mark(hexadecimal: bool, byte: u8) -> bool
 fn in_numeral(hexadecimal: bool, last: u8, byte: u8) -> bool
     ensures { result ≡ in_numeral hexadecimal last byte }
 {
-    is_word_byte(byte) || byte == b'.' || ((byte == b'+' || byte == b'-') && is_exponent_mark(hexadecimal, last))
+    is_word_byte(byte)
+        || byte == b'.'
+        || ((byte == b'+' || byte == b'-') && is_exponent_mark(hexadecimal, last))
 }
 
 /// What follows the bytes at the front that go on a numeral with this last byte.
@@ -141,7 +144,8 @@ fn behind_two(text: &[u8]) -> &[u8]
 
 /// The integer of a numeral.
 pub(crate) fn integer(numeral: &[u8]) -> Option<i64>
-    ensures { result ≡ integer_of numeral.now }
+    ensures value { result ≡ integer_of numeral.now }
+    ensures fits { IfSome result (λ v. FitsSigned w64 v) }
 {
     if is_hexadecimal(numeral) {
         return digits_integer(behind_two(numeral));

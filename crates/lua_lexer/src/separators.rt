@@ -34,13 +34,7 @@ fn separator(text: &[u8]) -> Option<&[u8]>
             }
             match front(tail) {
                 None => None,
-                Some((second, rest)) => {
-                    if second == b'-' {
-                        comment(rest)
-                    } else {
-                        None
-                    }
-                }
+                Some((second, rest)) => { if second == b'-' { comment(rest) } else { None } }
             }
         }
     }

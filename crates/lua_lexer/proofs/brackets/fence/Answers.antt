@@ -9,5 +9,5 @@ pub loop-byte-preserved : goal.loop-byte-preserved
 loop-byte-preserved c = record {
   counted = let h = ap length c.in-Some.ensures in omega (arith, h, c.loop-byte.invariant.counted);
   there = λ n m r e f. c.loop-byte.invariant.there (suc n) m r (omega (arith, e)) (fence_more c.in-Some.ensures c.if-byte-ne61.false f);
-  absent = λ out. c.loop-byte.invariant.absent (fence_absent c.in-Some.ensures c.if-byte-last.false out)
+  absent = λ out. c.loop-byte.invariant.absent (fence_absent c.in-Some.ensures c.if-byte-last.false out);
 }

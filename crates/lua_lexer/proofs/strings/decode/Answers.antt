@@ -9,5 +9,5 @@ loop-after-preserved c =
     record {
       reads = λ more r f. reads_to _ k.0 more k.2 (c.loop-after.invariant.reads (k.0 ++ more) r (Reads.part k.1 f));
       spoils = λ r f. c.loop-after.invariant.spoils r (Spoils.later k.1 f);
-      broken = λ out. c.loop-after.invariant.broken (never_ends_part c.requires k.1 out)
+      broken = λ out. c.loop-after.invariant.broken (never_ends_part c.requires k.1 out);
     }

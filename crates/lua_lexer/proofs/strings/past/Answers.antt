@@ -19,7 +19,8 @@ returns-in-Some-escape c =
 pub returns-in-Some-front : goal.returns-in-Some-front
 returns-in-Some-front c =
     let h = ap length c.in-Some.ensures in
-    let k = ap length c.in-Some-front.ensures in
-    ((λ u f. bad_at c.in-Some.ensures c.if-byte-ne92.false c.in-Some-front.ensures c.in-None.ensures.value f),
-     never_ends_bad c.requires.quote c.in-Some.ensures c.if-byte-ne92.false c.in-Some-front.ensures c.in-None.ensures.value,
-     omega (arith, h, k))
+    let k = ap length c.in-Some-front.ensures in (
+      (λ u f. bad_at c.in-Some.ensures c.if-byte-ne92.false c.in-Some-front.ensures c.in-None.ensures.value f),
+      never_ends_bad c.requires.quote c.in-Some.ensures c.if-byte-ne92.false c.in-Some-front.ensures c.in-None.ensures.value,
+      omega (arith, h, k),
+    )

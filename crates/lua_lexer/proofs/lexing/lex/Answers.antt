@@ -1,0 +1,13 @@
+use Rattle.std.proofs.Common.{rules, ◌≡◌, ℕ, suc, ◌+◌, ◌-◌, ◌<◌, ◌≤◌, [], ◌∷◌, ◌++◌, List, length, take, true, false, refl, ap, sym, ◌∙◌, subst, arith, length-take-le}
+use Rattle.lua_lexer.proofs.Laws.{only_tokens, only_refusal}
+use Rattle.lua_lexer.specs.Tokens.{Refused}
+use Rattle.lua_lexer.proofs.lexing.lex.Goals as goal
+
+pub returns-then-bytes-gt-MOST-clause-refused : goal.returns-then-bytes-gt-MOST-clause-refused
+returns-then-bytes-gt-MOST-clause-refused c = Refused.too_long c.if-bytes-gt-MOST.true
+
+pub returns-clause-only_tokens : goal.returns-clause-only_tokens
+returns-clause-only_tokens c = λ ts l. only_tokens c.read.result c.read.ensures.ok c.read.ensures.refused l
+
+pub returns-clause-only_refusal : goal.returns-clause-only_refusal
+returns-clause-only_refusal c = λ r f. only_refusal c.read.result c.read.ensures.ok c.read.ensures.refused f
