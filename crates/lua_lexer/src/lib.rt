@@ -11,6 +11,8 @@ mod pieces;
 mod separators;
 mod signs;
 mod strings;
+#[cfg(test)]
+mod tests;
 mod theorems;
 mod token;
 mod words;
