@@ -10,3 +10,4 @@ pub mod Cuts
 pub mod Tails
 pub mod Spots
 pub mod Founds
+pub mod Order

@@ -1,5 +1,5 @@
 -- Line ends and places. LF, CR, CRLF and LFCR are one line end each.
-use Rattle.std.specs.Prelude.{ℕ, ◌+◌, ◌-◌, Bool, ◌&&◌, ◌||◌, not, ◌==◌, Option, Some, None, List, [], ◌∷◌, length, take, if◌then◌else◌}
+use Rattle.std.specs.Prelude.{◌≡◌, ℕ, ◌+◌, ◌-◌, Bool, false, ◌&&◌, ◌||◌, not, ◌==◌, Option, Some, None, List, [], ◌∷◌, length, take, if◌then◌else◌}
 use Rattle.tl_base.specs.declared.place.Pos.{Pos}
 use Rattle.lua_lexer.specs.declared.lines.Spot.{Spot}
 use Rattle.lua_lexer.specs.Letters.{Text, is_line_byte}
@@ -46,3 +46,9 @@ spot_at all from = further_on first_spot (span all from)
 
 abbrev pub pos_at : ℕ → Text → Text → Pos
 pos_at file all from = record { «module» = file; line = (spot_at all from).line; column = (spot_at all from).column }
+
+-- From a line and column on, where the end of a text is: a line end begins a line, any other byte goes one column on.
+pub data Reaches : ℕ → ℕ → Text → ℕ → ℕ → Type 0 where
+  done : (l c : ℕ) → Reaches l c [] l c
+  byte : {t : Text} {m d : ℕ} (l c b : ℕ) → is_line_byte b ≡ false → Reaches l (c + 1) t m d → Reaches l c (b ∷ t) m d
+  line : {t u : Text} {m d : ℕ} (l c : ℕ) → behind_line_end t ≡ Some u → Reaches (l + 1) 1 u m d → Reaches l c t m d

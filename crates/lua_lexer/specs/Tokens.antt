@@ -96,3 +96,8 @@ abbrev pub IsRefusal : Refusal → Result (List Token) Failure → Type 0
 IsRefusal r (Ok us) = ⊥
 IsRefusal r (Err failure.NoMemory) = Unit {0}
 IsRefusal r (Err (failure.Refused q)) = q ≡ r
+
+-- From an offset on tokens are in order in a text of that length, none but the last is empty, and the last is `End` at the text's end.
+pub data InOrder (all : ℕ) : ℕ → List Token → Type 0 where
+  last : {from : ℕ} (t : Token) → from ≤ all → t.kind ≡ kind.End → t.start ≡ all → t.end ≡ all → InOrder all from (t ∷ [])
+  next : {from : ℕ} {ts : List Token} (t : Token) → from ≤ t.start → t.start < t.end → InOrder all t.end ts → InOrder all from (t ∷ ts)

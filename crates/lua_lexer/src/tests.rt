@@ -634,6 +634,8 @@ fn texts_are_cut_into_tokens(rt: HostRuntime) -> Result<(), Fail> {
     at_most_one_list();
     at_most_one_refusal();
     tokens_or_refusal();
+    tokens_are_in_order();
+    places_count_line_ends();
     Ok(())
 }
 
