@@ -18,5 +18,8 @@ mod token;
 mod words;
 
 pub use lexing::lex;
-pub use theorems::{at_most_one_list, at_most_one_refusal, places_count_line_ends, tokens_are_in_order, tokens_or_refusal};
+pub use theorems::{
+    at_most_one_list, at_most_one_refusal, places_count_line_ends, tokens_are_in_order,
+    tokens_or_refusal,
+};
 pub use token::{Keyword, Symbol, Token, TokenKind};

@@ -584,7 +584,10 @@ fn shown(alloc: Global, source: &[u8]) -> Result<String, AllocError> {
         Err(Failure::NoMemory) => text.push_str("no memory")?,
         Err(Failure::Refused(refusal)) => {
             let code = refusal.code.name();
-            text.push_str(&format!(in alloc; "{code}@{}:{}", refusal.pos.line, refusal.pos.column)?)?;
+            text.push_str(&format!(in alloc;
+                "{code}@{}:{}",
+                refusal.pos.line, refusal.pos.column
+            )?)?;
         }
         Ok(tokens) => {
             for token in tokens.as_slice() {
@@ -592,7 +595,10 @@ fn shown(alloc: Global, source: &[u8]) -> Result<String, AllocError> {
                     text.push_str(";")?;
                 }
                 text.push_str(&kind_of(alloc, source, token)?)?;
-                text.push_str(&format!(in alloc; "@{}:{}+{}-{}", token.pos.line, token.pos.column, token.start, token.end)?)?;
+                text.push_str(&format!(in alloc;
+                    "@{}:{}+{}-{}",
+                    token.pos.line, token.pos.column, token.start, token.end
+                )?)?;
             }
         }
     }

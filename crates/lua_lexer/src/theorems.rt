@@ -26,11 +26,9 @@ pub fn tokens_or_refusal()
 /// The tokens of a text are in order, and the last is `End` at the text's end.
 pub fn tokens_are_in_order()
     ensures { (file : ℕ) (text : Text) (a : List Token) → Lexed file text a → InOrder (length text) 0 a }
-{
-}
+{}
 
 /// A place counts the line ends before it, and the bytes behind the last of them.
 pub fn places_count_line_ends()
     ensures { (file : ℕ) (all before rest : Text) (l c : ℕ) → all ≡ before ++ rest → Reaches 1 1 before l c → pos_at file all rest ≡ record { «module» = file; line = l; column = c } }
-{
-}
+{}
