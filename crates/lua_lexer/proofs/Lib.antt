@@ -11,3 +11,4 @@ pub mod Tails
 pub mod Spots
 pub mod Founds
 pub mod Order
+pub mod Values

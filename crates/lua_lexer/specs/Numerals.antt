@@ -1,5 +1,5 @@
 -- Numerals (Lua 5.3 manual, 3.1 and 3.4.3).
-use Rattle.std.specs.Prelude.{ℕ, ◌+◌, ◌-◌, ◌*◌, ◌%◌, ◌^◌, Bool, true, false, ◌||◌, ◌&&◌, not, ◌==◌, nat_lt, ℤ, pos, negsuc, Option, Some, None, List, [], ◌∷◌, if◌then◌else◌, option_map}
+use Rattle.std.specs.Prelude.{ℕ, ◌+◌, ◌-◌, ◌*◌, ◌%◌, ◌^◌, Bool, true, false, ◌||◌, ◌&&◌, not, ◌==◌, nat_lt, ℤ, pos, negsuc, Option, Some, None, List, [], ◌∷◌, if◌then◌else◌, option_map, option_and_then}
 use Rattle.lua_lexer.specs.Letters.{Text, is_digit, is_word_byte, is_hex_digit, hex_value}
 
 -- `0x` or `0X` is at the front
@@ -25,24 +25,32 @@ is_exponent_mark hexadecimal b = if hexadecimal then (b == 112 || b == 80) else 
 abbrev pub in_numeral : Bool → ℕ → ℕ → Bool
 in_numeral hexadecimal last b = is_word_byte b || b == 46 || ((b == 43 || b == 45) && is_exponent_mark hexadecimal last)
 
--- the value of decimal digits behind digits of this value, while it stays below 2^63
-abbrev pub decimal_from : ℕ → Text → Option ℕ
-decimal_from v [] = Some v
-decimal_from v (b ∷ t) = if is_digit b && nat_lt (10 * v + (b - 48)) (2 ^ 63) then decimal_from (10 * v + (b - 48)) t else None
+-- the value of decimal digits behind digits of this value
+abbrev pub decimal_value : ℕ → Text → Option ℕ
+decimal_value v [] = Some v
+decimal_value v (b ∷ t) = if is_digit b then decimal_value (10 * v + (b - 48)) t else None
 
--- the value of hexadecimal digits behind digits of this value, modulo 2^64
-abbrev pub hexadecimal_from : ℕ → Text → Option ℕ
-hexadecimal_from v [] = Some v
-hexadecimal_from v (b ∷ t) = if is_hex_digit b then hexadecimal_from ((16 * v + hex_value b) % 2 ^ 64) t else None
+-- the value of hexadecimal digits behind digits of this value
+abbrev pub hexadecimal_value : ℕ → Text → Option ℕ
+hexadecimal_value v [] = Some v
+hexadecimal_value v (b ∷ t) = if is_hex_digit b then hexadecimal_value (16 * v + hex_value b) t else None
 
--- the integer of 64 bits in two's complement
+-- the integer of that value, up to the greatest integer of 64 bits
+abbrev pub in_range : ℕ → Option ℤ
+in_range n = if nat_lt n (2 ^ 63) then Some (pos n) else None
+
+-- the integer of 64 bits in two's complement for a value below 2^64
 abbrev pub two_complement : ℕ → ℤ
 two_complement n = if nat_lt n (2 ^ 63) then pos n else negsuc (2 ^ 64 - 1 - n)
+
+-- the integer of that value modulo 2^64
+abbrev pub wrapped : ℕ → ℤ
+wrapped n = two_complement (n % 2 ^ 64)
 
 -- the integer of hexadecimal digits, of which there is one at least
 abbrev pub digits_integer : Text → Option ℤ
 digits_integer [] = None
-digits_integer (b ∷ t) = option_map two_complement (hexadecimal_from 0 (b ∷ t))
+digits_integer (b ∷ t) = option_map wrapped (hexadecimal_value 0 (b ∷ t))
 
 -- the text without its first two bytes
 abbrev pub behind_two : Text → Text
@@ -51,4 +59,4 @@ behind_two _ = []
 
 -- the integer of a numeral, if it is an integer numeral
 abbrev pub integer_of : Text → Option ℤ
-integer_of bs = if is_hexadecimal bs then digits_integer (behind_two bs) else option_map pos (decimal_from 0 bs)
+integer_of bs = if is_hexadecimal bs then digits_integer (behind_two bs) else option_and_then in_range (decimal_value 0 bs)

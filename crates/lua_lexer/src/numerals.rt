@@ -1,6 +1,6 @@
-ghost use Rattle.std.specs.Prelude.{◌≡◌, ◌<◌, ◌≤◌, ◌^◌, ℤ, MatchOption, IfSome, Option, FitsSigned, length};
+ghost use Rattle.std.specs.Prelude.{◌≡◌, ℕ, ◌<◌, ◌≤◌, ◌%◌, ◌^◌, ℤ, option_and_then, MatchOption, IfSome, Option, FitsSigned, length};
 ghost use mir.Syntax.{w64};
-ghost use Rattle.lua_lexer.specs.Numerals.{is_hexadecimal, begins_with_digit, is_exponent_mark, in_numeral, decimal_from, hexadecimal_from, two_complement, digits_integer, behind_two, integer_of};
+ghost use Rattle.lua_lexer.specs.Numerals.{is_hexadecimal, begins_with_digit, is_exponent_mark, in_numeral, decimal_value, hexadecimal_value, in_range, two_complement, digits_integer, behind_two, integer_of};
 ghost use Rattle.lua_lexer.specs.Reading.{behind_numeral};
 
 use crate::letters::{hex_value, is_digit, is_word_byte};
@@ -65,7 +65,7 @@ pub(crate) fn behind_numeral(hexadecimal: bool, last: u8, text: &[u8]) -> &[u8]
 
 /// The value of decimal digits, if it is below 2^63.
 fn decimal(text: &[u8]) -> Option<u64>
-    ensures value { MatchOption result (decimal_from 0 text.now ≡ None) (λ v. decimal_from 0 text.now ≡ Some v) }
+    ensures value { MatchOption result (option_and_then in_range (decimal_value 0 text.now) ≡ None) (λ v. decimal_value 0 text.now ≡ Some v) }
     ensures below { IfSome result (λ v. v < 2 ^ 63) }
 {
     let mut value: u64 = 0;
@@ -89,7 +89,7 @@ fn decimal(text: &[u8]) -> Option<u64>
 
 /// The value of hexadecimal digits, modulo 2^64.
 fn hexadecimal(text: &[u8]) -> Option<u64>
-    ensures { MatchOption result (hexadecimal_from 0 text.now ≡ None) (λ v. hexadecimal_from 0 text.now ≡ Some v) }
+    ensures { MatchOption result (hexadecimal_value 0 text.now ≡ None) (λ v. (n : ℕ) × (n % 2 ^ 64 ≡ v) × (hexadecimal_value 0 text.now ≡ Some n)) }
 {
     let mut value: u64 = 0;
     let mut rest = text;
