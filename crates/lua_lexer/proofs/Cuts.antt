@@ -1,20 +1,20 @@
 -- The piece that is found is the longest.
-use Rattle.std.proofs.Common.{◌≡◌, ℕ, suc, ◌+◌, ◌<◌, ◌≤◌, ◌⊎◌, inl, inr, ◌==◌, Bool, true, false, not, ◌&&◌, ◌||◌, List, [], ◌∷◌, ◌++◌, length, refl, ap, sym, ◌∙◌, subst, subst₂, arith, if◌then◌else◌}
+use Rattle.std.proofs.Common.{◌≡◌, ℕ, ◌+◌, ◌<◌, ◌≤◌, ◌⊎◌, inl, inr, ◌==◌, Bool, true, false, not, ◌&&◌, ◌||◌, [], ◌∷◌, ◌++◌, length, refl, ap, sym, ◌∙◌, subst, subst₂, arith, if◌then◌else◌}
 use Rattle.std.proofs.lemmas.Bool.Decides.{nat_tests}
 use Rattle.lua_lexer.specs.Letters.{Text, is_letter, is_digit, is_quote, is_word_byte}
-use Rattle.lua_lexer.specs.Numerals.{begins_numeral, begins_with_digit, is_hexadecimal, in_numeral}
+use Rattle.lua_lexer.specs.Numerals.{begins_numeral, is_hexadecimal, in_numeral}
 use Rattle.lua_lexer.specs.Strings.{Ends}
 use Rattle.lua_lexer.specs.Brackets.{Fence, Opens, Closes}
 use Rattle.lua_lexer.specs.Spellings.{spelling}
-use Rattle.lua_lexer.specs.Pieces.{Class, Wordlike, Numeral, Short, Long, Opening, Sign, Piece, Cut, IsLongest, Follows, in_word}
+use Rattle.lua_lexer.specs.Pieces.{Class, Wordlike, Numeral, Short, Long, Opening, Sign, Piece, Cut, Follows, in_word}
 use Rattle.lua_lexer.specs.Reading.{rest_of, behind_word, behind_numeral, SignAt, NoSign, NeverOpens, NeverCloses, NeverEnds}
 use Rattle.lua_lexer.specs.declared.token.Symbol.{Symbol}
 use Rattle.lua_lexer.specs.declared.token.Symbol.TheVariants as sy
-use Rattle.lua_lexer.proofs.Spelled.{first, second, spelled, sized, sign_first, no_letter, no_digit, no_quote, no_second_digit, bracket_alone}
-use Rattle.lua_lexer.proofs.Longest.{begun, dots_begun, longer}
+use Rattle.lua_lexer.proofs.Spelled.{first, second, sized, sign_first, no_letter, no_digit, no_quote, no_second_digit, bracket_alone}
+use Rattle.lua_lexer.proofs.Longest.{begun, dots_begun}
 use Rattle.lua_lexer.proofs.Once.{opens_two, closes_levels, ends_two}
 use Rattle.lua_lexer.proofs.Shorter.{ends_shorter}
-use Rattle.lua_lexer.proofs.Fences.{never_closes_at, opens_shorter, closes_shorter}
+use Rattle.lua_lexer.proofs.Fences.{never_closes_at, closes_shorter}
 
 -- ---- bytes that go on a piece
 rest_step : (c : Bool) (x b : ℕ) (p : ℕ → ℕ → Bool) (t : Text) → length (rest_of p b t) ≤ length t → length (if c then rest_of p b t else x ∷ t) ≤ length (x ∷ t)

@@ -1,11 +1,10 @@
 -- Steps of the search for long brackets and separators.
-use Rattle.std.proofs.Common.{◌≡◌, ℕ, zero, suc, ◌+◌, ◌-◌, ◌<◌, ◌≤◌, ◌==◌, Bool, true, false, List, [], ◌∷◌, ◌++◌, length, take, refl, ap, sym, ◌∙◌, subst, subst₂, arith, if◌then◌else◌, append_assoc, append-nil, length-append}
+use Rattle.std.proofs.Common.{◌≡◌, ℕ, suc, ◌-◌, ◌<◌, ◌≤◌, Bool, true, false, [], ◌∷◌, ◌++◌, length, take, refl, ap, sym, ◌∙◌, subst, subst₂, arith, if◌then◌else◌, append_assoc, append-nil, length-append}
 use Rattle.std.proofs.Math.Seq.{take-append_seam}
-use Rattle.std.proofs.lemmas.Bool.Decides.{nat_tests}
 use Rattle.lua_lexer.specs.Letters.{Text, is_line_byte, is_blank}
 use Rattle.lua_lexer.specs.Lines.{span, to_line_end}
 use Rattle.lua_lexer.specs.Brackets.{Fence, Opens, Shuts, Closes}
-use Rattle.lua_lexer.specs.Tokens.{Separator, Skips}
+use Rattle.lua_lexer.specs.Tokens.{Separator}
 use Rattle.lua_lexer.specs.Reading.{NoFence, NeverOpens, NeverShuts, NeverCloses, NoSeparator, Comment, NoComment}
 use Rattle.lua_lexer.proofs.Once.{fence_two, opens_two, no_blank}
 

@@ -1,5 +1,5 @@
 -- What is found is what is defined.
-use Rattle.std.proofs.Common.{◌≡◌, ℕ, ◌+◌, ◌-◌, ◌<◌, ◌≤◌, ◌==◌, ◌||◌, ◌&&◌, Bool, true, false, List, [], ◌∷◌, ◌++◌, length, refl, ap, sym, ◌∙◌, subst, subst₂, arith, Option, Some, None, ℤ}
+use Rattle.std.proofs.Common.{◌≡◌, ℕ, ◌-◌, Bool, true, false, List, [], ◌∷◌, ◌++◌, length, refl, ap, sym, ◌∙◌, subst, subst₂}
 use Rattle.tl_base.specs.declared.refusal.RefusalCode.{RefusalCode}
 use Rattle.tl_base.specs.declared.refusal.RefusalCode.TheVariants as code
 use Rattle.tl_base.specs.declared.refusal.Refusal.{Refusal}
@@ -7,17 +7,15 @@ use Rattle.lua_lexer.specs.declared.lines.Spot.{Spot}
 use Rattle.lua_lexer.specs.declared.token.Token.{Token}
 use Rattle.lua_lexer.specs.declared.token.TokenKind.{TokenKind}
 use Rattle.lua_lexer.specs.declared.token.TokenKind.TheVariants as kind
-use Rattle.lua_lexer.specs.declared.token.Symbol.{Symbol}
 use Rattle.lua_lexer.specs.Letters.{Text, is_letter, is_quote}
-use Rattle.lua_lexer.specs.Lines.{spot_at, pos_at, span}
-use Rattle.lua_lexer.specs.Numerals.{begins_numeral, is_hexadecimal, integer_of}
+use Rattle.lua_lexer.specs.Lines.{spot_at, pos_at}
+use Rattle.lua_lexer.specs.Numerals.{begins_numeral, is_hexadecimal}
 use Rattle.lua_lexer.specs.Strings.{Ends, Reads, Spoils}
-use Rattle.lua_lexer.specs.Brackets.{Opens, Closes}
-use Rattle.lua_lexer.specs.Pieces.{Class, Wordlike, Numeral, Short, Long, Opening, Sign, Piece, Cut}
+use Rattle.lua_lexer.specs.Pieces.{Class, Wordlike, Numeral, Short, Cut}
 use Rattle.lua_lexer.specs.Tokens.{Skips, Means, Lexes, Faults, Refuses, token_at}
-use Rattle.lua_lexer.specs.Reading.{behind_word, behind_numeral, NeverEnds, NeverOpens, NeverCloses, NoSign, IsCommentTest}
-use Rattle.lua_lexer.proofs.Cuts.{cut_word, cut_numeral, cut_short, cut_unended, cut_bracket, cut_comment, cut_sign, no_piece, IsElse}
-use Rattle.lua_lexer.proofs.Parts.{spoils_ends, spoils_never, reads_ends}
+use Rattle.lua_lexer.specs.Reading.{behind_word, behind_numeral, NeverEnds, NoSign, IsCommentTest}
+use Rattle.lua_lexer.proofs.Cuts.{cut_word, cut_numeral, cut_short, cut_unended, cut_comment, no_piece}
+use Rattle.lua_lexer.proofs.Parts.{spoils_ends}
 
 pub cut_word_at : {s t r : Text} (b : ℕ) → is_letter b ≡ true → s ≡ b ∷ t → r ≡ behind_word t → Cut Wordlike s r
 cut_word_at {s = s} b l h e = subst (λ x. Cut Wordlike s x) (sym e) (cut_word b l h)

@@ -1,7 +1,6 @@
 -- A text has at most one list of tokens, at most one first refusal, and not both.
-use Rattle.std.proofs.Common.{◌≡◌, ℕ, ◌<◌, Bool, true, false, ◌⊎◌, inl, inr, ◌==◌, List, [], ◌∷◌, length, Option, Some, None, refl, ap, ap₂, sym, ◌∙◌, subst, arith, ℤ, Result, Ok, Err, IfOk, IfErr}
+use Rattle.std.proofs.Common.{◌≡◌, ℕ, ◌<◌, true, ◌⊎◌, inl, inr, List, [], ◌∷◌, length, Some, None, refl, ap, ap₂, sym, ◌∙◌, subst, arith, Result, Ok, Err, IfOk, IfErr}
 use Rattle.tl_base.specs.declared.refusal.RefusalCode.{RefusalCode}
-use Rattle.lua_lexer.specs.declared.token.Keyword.{Keyword}
 use Rattle.lua_lexer.specs.declared.token.Token.{Token}
 use Rattle.lua_lexer.specs.declared.token.TokenKind.{TokenKind}
 use Rattle.lua_lexer.specs.declared.token.TokenKind.TheVariants as kind
@@ -9,9 +8,8 @@ use Rattle.lua_lexer.specs.Letters.{Text, is_quote}
 use Rattle.lua_lexer.specs.Lines.{span, pos_at}
 use Rattle.lua_lexer.specs.Numerals.{integer_of}
 use Rattle.lua_lexer.specs.Strings.{Reads, Spoils}
-use Rattle.lua_lexer.specs.Spellings.{letters}
-use Rattle.lua_lexer.specs.Pieces.{Class, Wordlike, Numeral, Short, Long, Opening, Sign, Piece, Cut, IsLongest}
-use Rattle.lua_lexer.specs.Tokens.{Separator, Skips, Means, Lexes, Faults, Refuses, token_at, Lexed, Refused, IsFailure, IsTokens, IsRefusal}
+use Rattle.lua_lexer.specs.Pieces.{Class, Numeral, Short, Opening, Piece, Cut}
+use Rattle.lua_lexer.specs.Tokens.{Means, Lexes, Faults, Refuses, token_at, Lexed, Refused, IsFailure, IsTokens, IsRefusal}
 use Rattle.tl_base.specs.declared.refusal.Refusal.{Refusal}
 use Rattle.tl_base.specs.declared.refusal.Failure.{Failure}
 use Rattle.tl_base.specs.declared.refusal.Failure.TheVariants as failure

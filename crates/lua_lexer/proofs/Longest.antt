@@ -1,5 +1,5 @@
 -- The symbol that is found is the longest.
-use Rattle.std.proofs.Common.{◌≡◌, ℕ, ◌<◌, ◌⊎◌, inl, inr, List, [], ◌∷◌, ◌++◌, length, refl, ap, sym, ◌∙◌, subst, subst₂, arith}
+use Rattle.std.proofs.Common.{◌≡◌, ℕ, ◌<◌, ◌⊎◌, inl, inr, [], ◌∷◌, ◌++◌, length, ap, sym, ◌∙◌, subst, subst₂, arith}
 use Rattle.lua_lexer.specs.Letters.{Text}
 use Rattle.lua_lexer.specs.Spellings.{spelling}
 use Rattle.lua_lexer.specs.Reading.{SignAt, NoSign, IsDotted}

@@ -1,8 +1,8 @@
 -- Each part of a text is read in one way.
-use Rattle.std.proofs.Common.{◌≡◌, ℕ, zero, suc, Bool, true, false, ◌&&◌, ◌||◌, not, ◌==◌, List, [], ◌∷◌, ◌++◌, Option, Some, None, refl, ap, sym, ◌∙◌, arith, subst, ap₂, if◌then◌else◌}
+use Rattle.std.proofs.Common.{◌≡◌, ℕ, suc, true, false, ◌==◌, ◌∷◌, ◌++◌, Option, Some, None, refl, ap, sym, ◌∙◌, arith, subst, ap₂}
 use Rattle.std.proofs.lemmas.Bool.Decides.{nat_tests}
 use Rattle.lua_lexer.specs.Letters.{Text, is_line_byte, is_blank, is_quote}
-use Rattle.lua_lexer.specs.Lines.{behind_line_end, behind_line_byte, to_line_end}
+use Rattle.lua_lexer.specs.Lines.{behind_line_end, to_line_end}
 use Rattle.lua_lexer.specs.Strings.{escape, is_plain, Part, Ends, Reads, Spoils}
 use Rattle.lua_lexer.specs.Brackets.{Fence, Opens, Shuts, Closes, Unified, Meant}
 use Rattle.lua_lexer.specs.Tokens.{Separator, Skips}

@@ -1,12 +1,11 @@
 -- Tokens are in order, and places count line ends.
-use Rattle.std.proofs.Common.{◌≡◌, ℕ, ◌+◌, ◌-◌, ◌<◌, ◌≤◌, ◌==◌, ◌&&◌, ◌||◌, not, Bool, true, false, List, [], ◌∷◌, ◌++◌, length, refl, ap, ap₂, sym, ◌∙◌, subst, arith, if◌then◌else◌, Option, Some, None}
+use Rattle.std.proofs.Common.{◌≡◌, ℕ, ◌+◌, ◌-◌, ◌≤◌, ◌==◌, ◌&&◌, not, Bool, true, false, List, [], ◌∷◌, ◌++◌, length, refl, ap, ap₂, sym, ◌∙◌, subst, arith, if◌then◌else◌, Some, None}
 use Rattle.std.proofs.lemmas.Bool.Decides.{nat_tests}
-use Rattle.tl_base.specs.declared.place.Pos.{Pos}
 use Rattle.lua_lexer.specs.declared.lines.Spot.{Spot}
 use Rattle.lua_lexer.specs.declared.token.Token.{Token}
 use Rattle.lua_lexer.specs.Letters.{Text, is_line_byte}
-use Rattle.lua_lexer.specs.Lines.{behind_line_byte, behind_line_end, completes, one_on, further_on, first_spot, span, pos_at, Reaches}
-use Rattle.lua_lexer.specs.Tokens.{Lexes, Lexed, InOrder, body}
+use Rattle.lua_lexer.specs.Lines.{behind_line_byte, behind_line_end, completes, one_on, further_on, first_spot, pos_at, Reaches}
+use Rattle.lua_lexer.specs.Tokens.{Lexes, Lexed, InOrder}
 use Rattle.lua_lexer.specs.Reading.{EndsWith}
 use Rattle.lua_lexer.proofs.Fences.{span_pre}
 use Rattle.lua_lexer.proofs.Tails.{tail_length, skips_tail, piece_tail, piece_shorter, body_tail, join}

@@ -1,12 +1,12 @@
 -- Steps of the reading of short strings and of long ones.
-use Rattle.std.proofs.Common.{◌≡◌, ℕ, ◌+◌, ◌<◌, ◌≤◌, ◌==◌, Bool, true, false, not, ◌&&◌, List, [], ◌∷◌, ◌++◌, Option, Some, None, length, refl, ap, sym, ◌∙◌, subst, subst₂, arith, append_assoc, append-nil, if◌then◌else◌}
+use Rattle.std.proofs.Common.{◌≡◌, ℕ, ◌≤◌, ◌==◌, Bool, true, false, not, ◌&&◌, [], ◌∷◌, ◌++◌, Some, None, length, refl, ap, sym, ◌∙◌, subst, arith, append_assoc, append-nil, if◌then◌else◌}
 use Rattle.std.proofs.lemmas.Bool.Decides.{nat_tests}
 use Rattle.lua_lexer.specs.Letters.{Text, is_line_byte, is_quote}
 use Rattle.lua_lexer.specs.Lines.{behind_line_byte, behind_line_end}
 use Rattle.lua_lexer.specs.Strings.{escape, is_plain, Part, Ends, Reads, Spoils}
-use Rattle.lua_lexer.specs.Brackets.{Unified, Meant}
+use Rattle.lua_lexer.specs.Brackets.{Unified}
 use Rattle.lua_lexer.specs.Reading.{NeverEnds}
-use Rattle.lua_lexer.proofs.Once.{plain_quote, plain_backslash, part_two, part_bad, part_quote, no_test}
+use Rattle.lua_lexer.proofs.Once.{part_two, part_bad, part_quote}
 
 pub plain_of : (q b : ℕ) → (b ≡ q → ⊥) → (b ≡ 92 → ⊥) → is_line_byte b ≡ false → is_plain q b ≡ true
 plain_of q b h e l = grind (arith, nat_tests)

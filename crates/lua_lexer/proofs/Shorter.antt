@@ -1,7 +1,6 @@
 -- What follows an escape or a string is shorter than the text before it.
-use Rattle.std.proofs.Common.{◌≡◌, ℕ, zero, suc, ◌+◌, ◌-◌, ◌*◌, ◌<◌, ◌≤◌, ◌⊎◌, inl, inr, ◌==◌, ◌&&◌, ◌||◌, nat_le, Bool, true, false, List, [], ◌∷◌, ◌++◌, length, refl, ap, sym, ◌∙◌, arith, Option, Some, None, option_map, if◌then◌else◌}
-use Rattle.lua_lexer.specs.Letters.{Text, is_blank, is_digit, is_line_byte, is_hex_digit, hex_value, is_quote}
-use Rattle.lua_lexer.specs.Lines.{behind_line_byte}
+use Rattle.std.proofs.Common.{◌≡◌, ℕ, zero, suc, ◌+◌, ◌-◌, ◌*◌, ◌<◌, ◌≤◌, ◌⊎◌, inl, inr, ◌==◌, ◌&&◌, nat_le, Bool, true, false, [], ◌∷◌, length, refl, ap, arith, Option, Some, None, option_map, if◌then◌else◌}
+use Rattle.lua_lexer.specs.Letters.{Text, is_blank, is_digit, is_line_byte, is_hex_digit, hex_value}
 use Rattle.lua_lexer.specs.Strings.{escape, behind_blanks, hex_escape, unicode_escape, byte_escape, digits_from, code_point_from, encoded, one_byte, letter_escape, Part, Ends}
 use Rattle.lua_lexer.proofs.Once.{pair_parts}
 use Rattle.lua_lexer.proofs.Parts.{line_byte_shorter}

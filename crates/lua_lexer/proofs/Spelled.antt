@@ -1,5 +1,5 @@
 -- Words and symbols are told apart by their spellings.
-use Rattle.std.proofs.Common.{◌≡◌, ℕ, Bool, true, false, ◌&&◌, ◌==◌, if◌then◌else◌, List, [], ◌∷◌, Option, Some, None, refl, ap, sym, ◌∙◌, codes, not, length, ◌++◌, ◌⊎◌, inl, inr}
+use Rattle.std.proofs.Common.{◌≡◌, ℕ, Bool, true, false, ◌&&◌, ◌==◌, if◌then◌else◌, List, [], ◌∷◌, Option, Some, None, refl, ap, sym, ◌∙◌, not, length, ◌++◌, ◌⊎◌, inl, inr}
 use Rattle.lua_lexer.specs.Letters.{Text, is_letter, is_digit, is_quote}
 use Rattle.lua_lexer.specs.Spellings.{letters, spelling}
 use Rattle.lua_lexer.specs.declared.token.Symbol.{Symbol}

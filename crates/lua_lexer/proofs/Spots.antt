@@ -1,11 +1,10 @@
 -- Places move on with the text.
-use Rattle.std.proofs.Common.{◌≡◌, ℕ, ◌+◌, ◌-◌, ◌<◌, ◌≤◌, ◌==◌, Bool, true, false, List, [], ◌∷◌, ◌++◌, length, refl, ap, ap₂, sym, ◌∙◌, subst, arith, if◌then◌else◌, append_assoc, length-append}
+use Rattle.std.proofs.Common.{◌≡◌, ℕ, ◌+◌, ◌≤◌, Bool, true, false, [], ◌∷◌, ◌++◌, length, refl, ap, ap₂, sym, ◌∙◌, arith, if◌then◌else◌, append_assoc, length-append}
 use Rattle.lua_lexer.specs.Letters.{Text, is_line_byte}
 use Rattle.lua_lexer.specs.Lines.{span, one_on, further_on, first_spot, spot_at, completes}
 use Rattle.lua_lexer.specs.Reading.{EndsWith}
 use Rattle.lua_lexer.specs.declared.lines.Spot.{Spot}
 use Rattle.lua_lexer.proofs.Fences.{span_pre}
-use Rattle.lua_lexer.proofs.Tails.{tail_length}
 
 further_append : (s : Spot) (x y : Text) → further_on s (x ++ y) ≡ further_on (further_on s x) y
 further_append s [] y = refl

@@ -1,12 +1,12 @@
 -- What follows a part of a text is an end of the text.
-use Rattle.std.proofs.Common.{◌≡◌, ℕ, zero, suc, ◌+◌, ◌-◌, ◌*◌, ◌<◌, ◌≤◌, ◌⊎◌, inl, inr, ◌==◌, ◌&&◌, ◌||◌, not, nat_le, Bool, true, false, List, [], ◌∷◌, ◌++◌, length, refl, ap, sym, ◌∙◌, subst, arith, Option, Some, None, option_map, if◌then◌else◌, append_assoc, length-append}
+use Rattle.std.proofs.Common.{◌≡◌, ℕ, zero, suc, ◌+◌, ◌-◌, ◌*◌, ◌<◌, ◌≤◌, ◌⊎◌, inl, inr, ◌==◌, ◌&&◌, not, nat_le, Bool, true, false, [], ◌∷◌, ◌++◌, length, refl, ap, sym, ◌∙◌, arith, Option, Some, None, option_map, if◌then◌else◌, append_assoc, length-append}
 use Rattle.tl_base.specs.declared.refusal.RefusalCode.{RefusalCode}
-use Rattle.lua_lexer.specs.Letters.{Text, is_blank, is_digit, is_line_byte, is_hex_digit, hex_value, is_quote}
+use Rattle.lua_lexer.specs.Letters.{Text, is_blank, is_digit, is_line_byte, is_hex_digit, hex_value}
 use Rattle.lua_lexer.specs.Lines.{behind_line_byte, to_line_end}
 use Rattle.lua_lexer.specs.Strings.{escape, behind_blanks, hex_escape, unicode_escape, byte_escape, digits_from, code_point_from, encoded, one_byte, letter_escape, Part, Ends, Spoils}
 use Rattle.lua_lexer.specs.Brackets.{Fence, Opens, Shuts, Closes}
 use Rattle.lua_lexer.specs.Spellings.{spelling}
-use Rattle.lua_lexer.specs.Pieces.{Class, Piece, Cut, Follows}
+use Rattle.lua_lexer.specs.Pieces.{Class, Piece, Follows}
 use Rattle.lua_lexer.specs.Tokens.{Separator, Skips, Faults, body}
 use Rattle.lua_lexer.specs.Reading.{EndsWith}
 use Rattle.lua_lexer.proofs.Once.{pair_parts}

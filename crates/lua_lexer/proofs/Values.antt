@@ -1,8 +1,8 @@
 -- Values of digits.
-use Rattle.std.proofs.Common.{◌≡◌, ℕ, ◌+◌, ◌-◌, ◌*◌, ◌/◌, ◌%◌, ◌^◌, ◌<◌, ◌≤◌, nat_lt, Bool, true, false, List, [], ◌∷◌, refl, ap, sym, ◌∙◌, arith, if◌then◌else◌, Option, Some, None, option_map, option_and_then}
+use Rattle.std.proofs.Common.{◌≡◌, ℕ, ◌+◌, ◌-◌, ◌*◌, ◌^◌, ◌≤◌, Bool, true, false, [], ◌∷◌, refl, ap, sym, ◌∙◌, arith, if◌then◌else◌, Option, None, option_and_then}
 use Rattle.std.proofs.lemmas.Bool.Decides.{nat_tests}
-use Rattle.lua_lexer.specs.Letters.{Text, is_digit, is_hex_digit, hex_value}
-use Rattle.lua_lexer.specs.Numerals.{decimal_value, hexadecimal_value, in_range, two_complement, wrapped}
+use Rattle.lua_lexer.specs.Letters.{Text, is_digit}
+use Rattle.lua_lexer.specs.Numerals.{decimal_value, in_range}
 
 none_step : (c : Bool) (x : Option ℕ) → option_and_then in_range x ≡ None → option_and_then in_range (if c then x else None) ≡ None
 none_step true x h = h

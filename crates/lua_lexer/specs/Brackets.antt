@@ -1,5 +1,5 @@
 -- Long brackets (Lua 5.3 manual, 3.1).
-use Rattle.std.specs.Prelude.{◌≡◌, ℕ, zero, suc, Bool, false, Option, Some, None, List, [], ◌∷◌}
+use Rattle.std.specs.Prelude.{◌≡◌, ℕ, zero, suc, false, Some, None, [], ◌∷◌}
 use Rattle.lua_lexer.specs.Letters.{Text, is_line_byte}
 use Rattle.lua_lexer.specs.Lines.{behind_line_end}
 

@@ -2,7 +2,7 @@
 use Rattle.std.specs.Prelude.{◌≡◌, ℕ, ◌<◌, ◌≤◌, List, [], ◌∷◌, ◌++◌, Option, Some, None, length}
 use denote.Ref.{Bor}
 use Rattle.lua_lexer.specs.Letters.{Text}
-use Rattle.lua_lexer.specs.Strings.{escape, Part, Ends, Reads, Spoils}
+use Rattle.lua_lexer.specs.Strings.{Part, Ends, Reads, Spoils}
 use Rattle.lua_lexer.specs.Brackets.{Unified}
 use Rattle.lua_lexer.specs.Reading.{NeverEnds}
 use Rattle.lua_lexer.specs.declared.strings.Step.{Step}

@@ -1,5 +1,5 @@
 -- What the code finds an escape to mean.
-use Rattle.std.specs.Prelude.{ℕ, ◌<◌, List, [], ◌∷◌}
+use Rattle.std.specs.Prelude.{◌<◌, [], ◌∷◌}
 use Rattle.lua_lexer.specs.Letters.{Text}
 use Rattle.lua_lexer.specs.Strings.{utf8}
 use Rattle.lua_lexer.specs.declared.escapes.Escaped.{Escaped}

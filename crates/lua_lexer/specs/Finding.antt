@@ -1,6 +1,5 @@
 -- What is found at the front of a text, and what one turn of the reading does.
 use Rattle.std.specs.Prelude.{◌≡◌, ℕ, ◌<◌, List, [], ◌∷◌, ◌++◌, length}
-use Rattle.tl_base.specs.declared.refusal.Refusal.{Refusal}
 use Rattle.tl_base.specs.declared.refusal.RefusalCode.{RefusalCode}
 use Rattle.lua_lexer.specs.declared.token.Token.{Token}
 use Rattle.lua_lexer.specs.declared.pieces.Found.{Found}

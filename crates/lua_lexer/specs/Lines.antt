@@ -1,5 +1,5 @@
 -- Line ends and places. LF, CR, CRLF and LFCR are one line end each.
-use Rattle.std.specs.Prelude.{◌≡◌, ℕ, ◌+◌, ◌-◌, Bool, false, ◌&&◌, ◌||◌, not, ◌==◌, Option, Some, None, List, [], ◌∷◌, length, take, if◌then◌else◌}
+use Rattle.std.specs.Prelude.{◌≡◌, ℕ, ◌+◌, ◌-◌, Bool, false, ◌&&◌, ◌||◌, not, ◌==◌, Option, Some, None, [], ◌∷◌, length, take, if◌then◌else◌}
 use Rattle.tl_base.specs.declared.place.Pos.{Pos}
 use Rattle.lua_lexer.specs.declared.lines.Spot.{Spot}
 use Rattle.lua_lexer.specs.Letters.{Text, is_line_byte}

@@ -1,5 +1,5 @@
 -- Numerals (Lua 5.3 manual, 3.1 and 3.4.3).
-use Rattle.std.specs.Prelude.{ℕ, ◌+◌, ◌-◌, ◌*◌, ◌%◌, ◌^◌, Bool, true, false, ◌||◌, ◌&&◌, not, ◌==◌, nat_lt, ℤ, pos, negsuc, Option, Some, None, List, [], ◌∷◌, if◌then◌else◌, option_map, option_and_then}
+use Rattle.std.specs.Prelude.{ℕ, ◌+◌, ◌-◌, ◌*◌, ◌%◌, ◌^◌, Bool, false, ◌||◌, ◌&&◌, ◌==◌, nat_lt, ℤ, pos, negsuc, Option, Some, None, [], ◌∷◌, if◌then◌else◌, option_map, option_and_then}
 use Rattle.lua_lexer.specs.Letters.{Text, is_digit, is_word_byte, is_hex_digit, hex_value}
 
 -- `0x` or `0X` is at the front

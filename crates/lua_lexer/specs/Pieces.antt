@@ -1,5 +1,5 @@
 -- What a text is cut into, whether or not a token is meant.
-use Rattle.std.specs.Prelude.{◌≡◌, ℕ, ◌<◌, Bool, true, ◌⊎◌, List, [], ◌∷◌, ◌++◌, length}
+use Rattle.std.specs.Prelude.{◌≡◌, ℕ, ◌<◌, Bool, true, ◌⊎◌, ◌∷◌, ◌++◌, length}
 use Rattle.lua_lexer.specs.Letters.{Text, is_letter, is_word_byte, is_quote}
 use Rattle.lua_lexer.specs.Numerals.{begins_numeral, is_hexadecimal, in_numeral}
 use Rattle.lua_lexer.specs.Strings.{Ends}

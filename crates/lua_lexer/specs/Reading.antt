@@ -1,9 +1,9 @@
 -- How far parts of a text reach, as the code finds them.
-use Rattle.std.specs.Prelude.{◌≡◌, ℕ, ◌+◌, ◌<◌, ◌≤◌, ◌^◌, Bool, true, false, ◌⊎◌, List, [], ◌∷◌, ◌++◌, length, if◌then◌else◌, Option, Some, None, ◌==◌}
+use Rattle.std.specs.Prelude.{◌≡◌, ℕ, ◌<◌, Bool, true, false, ◌⊎◌, [], ◌∷◌, ◌++◌, length, if◌then◌else◌}
 use Rattle.lua_lexer.specs.Letters.{Text, is_word_byte}
 use Rattle.lua_lexer.specs.Numerals.{in_numeral}
 use Rattle.lua_lexer.specs.Spellings.{spelling}
-use Rattle.lua_lexer.specs.Strings.{Ends, utf8}
+use Rattle.lua_lexer.specs.Strings.{Ends}
 use Rattle.lua_lexer.specs.Brackets.{Fence, Opens, Shuts, Closes}
 use Rattle.lua_lexer.specs.Tokens.{Separator}
 use Rattle.lua_lexer.specs.declared.token.Symbol.{Symbol}

@@ -1,5 +1,5 @@
 -- Short strings and their escapes (Lua 5.3 manual, 3.1).
-use Rattle.std.specs.Prelude.{◌≡◌, ℕ, zero, suc, ◌+◌, ◌-◌, ◌*◌, ◌/◌, ◌%◌, Bool, true, ◌||◌, ◌&&◌, not, ◌==◌, nat_lt, nat_le, Option, Some, None, List, [], ◌∷◌, ◌++◌, if◌then◌else◌, option_map}
+use Rattle.std.specs.Prelude.{◌≡◌, ℕ, zero, suc, ◌+◌, ◌-◌, ◌*◌, ◌/◌, ◌%◌, Bool, true, ◌||◌, ◌&&◌, not, ◌==◌, nat_lt, nat_le, Option, Some, None, [], ◌∷◌, ◌++◌, if◌then◌else◌, option_map}
 use Rattle.lua_lexer.specs.Letters.{Text, is_line_byte, is_blank, is_digit, is_hex_digit, hex_value}
 use Rattle.lua_lexer.specs.Lines.{behind_line_byte}
 

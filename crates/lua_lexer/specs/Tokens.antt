@@ -1,6 +1,5 @@
 -- The tokens of a text, and its first refusal.
-use Rattle.std.specs.Prelude.{◌≡◌, ℕ, ◌+◌, ◌-◌, ◌<◌, ◌≤◌, Bool, true, ℤ, Option, Some, None, List, [], ◌∷◌, length, ◌==◌, if◌then◌else◌, Result, Ok, Err}
-use Rattle.tl_base.specs.declared.place.Pos.{Pos}
+use Rattle.std.specs.Prelude.{◌≡◌, ℕ, ◌-◌, ◌<◌, ◌≤◌, true, ℤ, Some, None, List, [], ◌∷◌, length, ◌==◌, if◌then◌else◌, Result, Ok, Err}
 use Rattle.tl_base.specs.declared.refusal.Refusal.{Refusal}
 use Rattle.tl_base.specs.declared.refusal.RefusalCode.{RefusalCode}
 use Rattle.tl_base.specs.declared.refusal.RefusalCode.TheVariants as code

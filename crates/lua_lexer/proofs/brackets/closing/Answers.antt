@@ -1,4 +1,4 @@
-use Rattle.std.proofs.Common.{rules, ◌≡◌, ℕ, suc, ◌+◌, [], ◌∷◌, ◌++◌, List, length, take, refl, ap, sym, ◌∙◌, subst, arith, append-nil, append_assoc}
+use Rattle.std.proofs.Common.{[], ◌∷◌, ◌++◌}
 use Rattle.lua_lexer.proofs.Fences.{closes_span, closes_from, pre_further, closes_further, never_closes, never_closes_empty}
 use Rattle.lua_lexer.specs.Brackets.{Closes}
 use Rattle.lua_lexer.proofs.brackets.closing.Goals as goal

@@ -1,4 +1,4 @@
-use Rattle.std.proofs.Common.{rules, ◌≡◌, ℕ, suc, ◌+◌, [], ◌∷◌, ◌++◌, List, length, take, refl, ap, sym, ◌∙◌, subst, arith, append-nil, append_assoc}
+use Rattle.std.proofs.Common.{suc, length, ap, arith}
 use Rattle.lua_lexer.proofs.Fences.{fence_done, fence_more, fence_absent}
 use Rattle.lua_lexer.proofs.brackets.fence.Goals as goal
 

@@ -1,4 +1,3 @@
-use Rattle.std.proofs.Common.{rules, ◌≡◌, ℕ, suc, ◌+◌, [], ◌∷◌, ◌++◌, List, length, take, refl, ap, sym, ◌∙◌, subst, arith, append-nil, append_assoc}
 use Rattle.lua_lexer.proofs.Fences.{never_opens, opens_at}
 use Rattle.lua_lexer.proofs.Maps.{match_map}
 use Rattle.lua_lexer.proofs.brackets.opening.Goals as goal

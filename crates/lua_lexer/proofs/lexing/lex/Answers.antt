@@ -1,4 +1,3 @@
-use Rattle.std.proofs.Common.{rules, ◌≡◌, ℕ, suc, ◌+◌, ◌-◌, ◌<◌, ◌≤◌, [], ◌∷◌, ◌++◌, List, length, take, true, false, refl, ap, sym, ◌∙◌, subst, arith, length-take-le}
 use Rattle.lua_lexer.proofs.Laws.{only_tokens, only_refusal}
 use Rattle.lua_lexer.specs.Tokens.{Refused}
 use Rattle.lua_lexer.proofs.lexing.lex.Goals as goal

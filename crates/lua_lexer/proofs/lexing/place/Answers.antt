@@ -1,4 +1,4 @@
-use Rattle.std.proofs.Common.{rules, ◌≡◌, ℕ, suc, ◌+◌, ◌-◌, ◌<◌, ◌≤◌, [], ◌∷◌, ◌++◌, List, length, take, true, false, refl, ap, sym, ◌∙◌, subst, arith, length-take-le}
+use Rattle.std.proofs.Common.{◌-◌, length, ap, ◌∙◌, arith, length-take-le}
 use Rattle.lua_lexer.proofs.Spots.{spot_bounded, column_bounded, spot_moves}
 use Rattle.lua_lexer.specs.Lines.{span, further_on}
 use Rattle.lua_lexer.specs.declared.lines.Spot.{Spot}

@@ -1,4 +1,4 @@
-use Rattle.std.proofs.Common.{rules, ◌≡◌, ℕ, suc, ◌+◌, ◌-◌, ◌<◌, ◌≤◌, [], ◌∷◌, ◌++◌, List, length, take, true, false, refl, ap, sym, ◌∙◌, subst, arith, length-take-le}
+use Rattle.std.proofs.Common.{sym, subst}
 use Rattle.lua_lexer.proofs.Tails.{body_tail}
 use Rattle.lua_lexer.proofs.Founds.{tokens_start, faults_start}
 use Rattle.lua_lexer.specs.Reading.{EndsWith}

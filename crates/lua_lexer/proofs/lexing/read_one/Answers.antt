@@ -1,4 +1,4 @@
-use Rattle.std.proofs.Common.{rules, ◌≡◌, ℕ, suc, ◌+◌, ◌-◌, ◌<◌, ◌≤◌, [], ◌∷◌, ◌++◌, List, length, take, true, false, refl, ap, sym, ◌∙◌, subst, arith, length-take-le}
+use Rattle.std.proofs.Common.{arith}
 use Rattle.lua_lexer.proofs.Tails.{join, skips_tail, faults_tail, piece_tail, tail_length, piece_shorter}
 use Rattle.lua_lexer.proofs.Founds.{made, finish_at, token_found, refusal_at}
 use Rattle.lua_lexer.specs.Tokens.{Refuses}

@@ -1,6 +1,4 @@
-use Rattle.std.proofs.Common.{rules, ◌≡◌, ℕ, suc, ◌+◌, ◌-◌, ◌<◌, ◌≤◌, [], ◌∷◌, ◌++◌, List, length, take, true, false, refl, ap, sym, ◌∙◌, subst, arith, length-take-le}
-use Rattle.lua_lexer.proofs.Founds.{comment_fault}
-use Rattle.lua_lexer.specs.Pieces.{Wordlike, Numeral, Short, Long, Opening, Sign}
+use Rattle.lua_lexer.specs.Pieces.{Long}
 use Rattle.lua_lexer.specs.Tokens.{Means, Faults}
 use Rattle.lua_lexer.proofs.Cuts.{cut_bracket, cut_long}
 use Rattle.lua_lexer.proofs.pieces.long.Goals as goal

@@ -1,6 +1,6 @@
-use Rattle.std.proofs.Common.{rules, ◌≡◌, ℕ, suc, ◌+◌, ◌-◌, ◌<◌, ◌≤◌, [], ◌∷◌, ◌++◌, List, length, take, true, false, refl, ap, sym, ◌∙◌, subst, arith, length-take-le}
+use Rattle.std.proofs.Common.{ap, sym, ◌∙◌}
 use Rattle.lua_lexer.proofs.Founds.{cut_numeral_at}
-use Rattle.lua_lexer.specs.Pieces.{Wordlike, Numeral, Short, Long, Opening, Sign}
+use Rattle.lua_lexer.specs.Pieces.{Numeral}
 use Rattle.lua_lexer.specs.Tokens.{Means, Faults}
 use mir.Syntax.{w64}
 use Rattle.std.proofs.Common.{Some}

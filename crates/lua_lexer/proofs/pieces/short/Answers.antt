@@ -1,7 +1,5 @@
-use Rattle.std.proofs.Common.{rules, ◌≡◌, ℕ, suc, ◌+◌, ◌-◌, ◌<◌, ◌≤◌, [], ◌∷◌, ◌++◌, List, length, take, true, false, refl, ap, sym, ◌∙◌, subst, arith, length-take-le}
 use Rattle.lua_lexer.proofs.Founds.{means_short, not_ended_at, bad_escape_at}
-use Rattle.lua_lexer.specs.Pieces.{Wordlike, Numeral, Short, Long, Opening, Sign}
-use Rattle.lua_lexer.specs.Tokens.{Means, Faults}
+use Rattle.lua_lexer.specs.Pieces.{Short}
 use Rattle.lua_lexer.proofs.Cuts.{cut_short}
 use Rattle.lua_lexer.proofs.Parts.{reads_ends, spoils_never}
 use Rattle.lua_lexer.proofs.pieces.short.Goals as goal

@@ -1,7 +1,6 @@
-use Rattle.std.proofs.Common.{rules, ◌≡◌, ℕ, suc, ◌+◌, ◌-◌, ◌<◌, ◌≤◌, [], ◌∷◌, ◌++◌, List, length, take, true, false, refl, ap, sym, ◌∙◌, subst, arith, length-take-le}
 use Rattle.lua_lexer.proofs.Founds.{comment_fault, no_token}
-use Rattle.lua_lexer.specs.Pieces.{Wordlike, Numeral, Short, Long, Opening, Sign}
-use Rattle.lua_lexer.specs.Tokens.{Means, Faults}
+use Rattle.lua_lexer.specs.Pieces.{Sign}
+use Rattle.lua_lexer.specs.Tokens.{Means}
 use Rattle.lua_lexer.proofs.Cuts.{cut_sign}
 use Rattle.lua_lexer.proofs.pieces.symbol.Goals as goal
 

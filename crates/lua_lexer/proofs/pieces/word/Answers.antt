@@ -1,7 +1,6 @@
-use Rattle.std.proofs.Common.{rules, ◌≡◌, ℕ, suc, ◌+◌, ◌-◌, ◌<◌, ◌≤◌, [], ◌∷◌, ◌++◌, List, length, take, true, false, refl, ap, sym, ◌∙◌, subst, arith, length-take-le}
 use Rattle.lua_lexer.proofs.Founds.{cut_word_at}
-use Rattle.lua_lexer.specs.Pieces.{Wordlike, Numeral, Short, Long, Opening, Sign}
-use Rattle.lua_lexer.specs.Tokens.{Means, Faults}
+use Rattle.lua_lexer.specs.Pieces.{Wordlike}
+use Rattle.lua_lexer.specs.Tokens.{Means}
 use Rattle.lua_lexer.proofs.pieces.word.Goals as goal
 
 pub returns-in-None : goal.returns-in-None

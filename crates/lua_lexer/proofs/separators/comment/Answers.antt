@@ -1,4 +1,3 @@
-use Rattle.std.proofs.Common.{rules, ◌≡◌, ℕ, suc, ◌+◌, [], ◌∷◌, ◌++◌, List, length, take, refl, ap, sym, ◌∙◌, subst, arith, append-nil, append_assoc}
 use Rattle.lua_lexer.proofs.Fences.{comment_line, no_comment}
 use Rattle.lua_lexer.specs.Tokens.{Separator}
 use Rattle.lua_lexer.proofs.separators.comment.Goals as goal

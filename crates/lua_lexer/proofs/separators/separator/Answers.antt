@@ -1,4 +1,4 @@
-use Rattle.std.proofs.Common.{rules, ◌≡◌, ℕ, suc, ◌+◌, [], ◌∷◌, ◌++◌, List, length, take, refl, ap, sym, ◌∙◌, subst, arith, append-nil, append_assoc}
+use Rattle.std.proofs.Common.{sym}
 use Rattle.lua_lexer.proofs.Fences.{blank_at}
 use Rattle.lua_lexer.proofs.separators.separator.Goals as goal
 

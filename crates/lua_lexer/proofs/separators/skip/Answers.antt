@@ -1,4 +1,3 @@
-use Rattle.std.proofs.Common.{rules, ◌≡◌, ℕ, suc, ◌+◌, [], ◌∷◌, ◌++◌, List, length, take, refl, ap, sym, ◌∙◌, subst, arith, append-nil, append_assoc}
 use Rattle.lua_lexer.proofs.Fences.{separator_shorter}
 use Rattle.lua_lexer.specs.Tokens.{Skips}
 use Rattle.lua_lexer.proofs.separators.skip.Goals as goal

@@ -1,5 +1,4 @@
-use Rattle.std.proofs.Common.{◌≡◌, [], ◌∷◌, ap, sym, ◌∙◌}
-use Rattle.lua_lexer.proofs.Longest.{no_sign_at_end, no_sign, one_sign, sign_dotted}
+use Rattle.lua_lexer.proofs.Longest.{no_sign, one_sign}
 use Rattle.lua_lexer.proofs.Maps.{match_map}
 use Rattle.lua_lexer.proofs.signs.sign.Goals as goal
 

@@ -1,4 +1,4 @@
-use Rattle.std.proofs.Common.{rules, ◌≡◌, ℕ, suc, ◌+◌, ◌<◌, ◌≤◌, [], ◌∷◌, ◌++◌, List, length, take, refl, ap, sym, ◌∙◌, subst, arith, append-nil, append_assoc}
+use Rattle.std.proofs.Common.{◌++◌}
 use Rattle.lua_lexer.proofs.Parts.{reads_to, never_ends_part}
 use Rattle.lua_lexer.specs.Strings.{Reads, Spoils}
 use Rattle.lua_lexer.proofs.strings.decode.Goals as goal

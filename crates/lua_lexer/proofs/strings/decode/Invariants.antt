@@ -1,5 +1,5 @@
 use Rattle.std.proofs.Common.{ℕ, ◌++◌, List, length}
-use Rattle.lua_lexer.specs.Strings.{Ends, Reads, Spoils}
+use Rattle.lua_lexer.specs.Strings.{Reads, Spoils}
 use Rattle.lua_lexer.specs.Reading.{NeverEnds}
 use Rattle.lua_lexer.proofs.strings.decode.Given as goal
 

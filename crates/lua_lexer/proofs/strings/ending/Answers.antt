@@ -1,4 +1,3 @@
-use Rattle.std.proofs.Common.{rules, ◌≡◌, ℕ, suc, ◌+◌, ◌<◌, ◌≤◌, [], ◌∷◌, ◌++◌, List, length, take, refl, ap, sym, ◌∙◌, subst, arith, append-nil, append_assoc}
 use Rattle.lua_lexer.proofs.Parts.{close_at, never_ends_empty}
 use Rattle.lua_lexer.proofs.strings.ending.Goals as goal
 

@@ -1,4 +1,4 @@
-use Rattle.std.proofs.Common.{ℕ, ◌++◌, List, length}
+use Rattle.std.proofs.Common.{ℕ, List, length}
 use Rattle.lua_lexer.specs.Strings.{Ends}
 use Rattle.lua_lexer.specs.Reading.{NeverEnds}
 use Rattle.lua_lexer.proofs.strings.ending.Given as goal

@@ -1,4 +1,3 @@
-use Rattle.std.proofs.Common.{rules, ◌≡◌, ℕ, suc, ◌+◌, ◌<◌, ◌≤◌, [], ◌∷◌, ◌++◌, List, length, take, refl, ap, sym, ◌∙◌, subst, arith, append-nil, append_assoc}
 use Rattle.lua_lexer.proofs.Maps.{ok_map}
 use Rattle.lua_lexer.specs.Brackets.{Meant}
 use Rattle.lua_lexer.proofs.strings.meaning.Goals as goal

@@ -1,4 +1,4 @@
-use Rattle.std.proofs.Common.{rules, ◌≡◌, ℕ, suc, ◌+◌, ◌<◌, ◌≤◌, [], ◌∷◌, ◌++◌, List, length, take, refl, ap, sym, ◌∙◌, subst, arith, append-nil, append_assoc}
+use Rattle.std.proofs.Common.{[], ◌∷◌, length, ap, sym, arith}
 use Rattle.lua_lexer.proofs.Parts.{open_byte, plain_at, escaped_at, bad_at, never_ends_part, never_ends_bad}
 use Rattle.lua_lexer.specs.Strings.{Part, Ends}
 use Rattle.lua_lexer.proofs.strings.past.Goals as goal

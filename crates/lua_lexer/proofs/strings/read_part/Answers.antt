@@ -1,4 +1,4 @@
-use Rattle.std.proofs.Common.{rules, ◌≡◌, ℕ, suc, ◌+◌, ◌<◌, ◌≤◌, [], ◌∷◌, ◌++◌, List, length, take, refl, ap, sym, ◌∙◌, subst, arith, append-nil, append_assoc}
+use Rattle.std.proofs.Common.{[], ◌∷◌, length, refl, ap, sym, arith}
 use Rattle.lua_lexer.proofs.Parts.{read_close, plain_at, spoils_here, escaped_at}
 use Rattle.lua_lexer.specs.Escaped.{meant}
 use Rattle.lua_lexer.proofs.strings.read_part.Goals as goal

@@ -1,4 +1,4 @@
-use Rattle.std.proofs.Common.{rules, ◌≡◌, ℕ, suc, ◌+◌, ◌<◌, ◌≤◌, [], ◌∷◌, ◌++◌, List, length, take, refl, ap, sym, ◌∙◌, subst, arith, append-nil, append_assoc}
+use Rattle.std.proofs.Common.{length, refl, ap, sym, arith}
 use Rattle.lua_lexer.proofs.Parts.{unified_line, unified_byte, line_byte_shorter}
 use Rattle.lua_lexer.proofs.strings.unified_step.Goals as goal
 

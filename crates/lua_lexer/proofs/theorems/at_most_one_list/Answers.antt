@@ -1,5 +1,4 @@
-use Rattle.std.proofs.Common.{rules, ◌≡◌, ℕ, suc, ◌+◌, ◌-◌, ◌<◌, ◌≤◌, [], ◌∷◌, ◌++◌, List, length, take, true, false, refl, ap, sym, ◌∙◌, subst, arith, length-take-le}
-use Rattle.lua_lexer.proofs.Laws.{lexed_once, refused_once, lexed_or_refused}
+use Rattle.lua_lexer.proofs.Laws.{lexed_once}
 use Rattle.lua_lexer.proofs.theorems.at_most_one_list.Goals as goal
 
 pub returns : goal.returns

@@ -1,4 +1,4 @@
-use Rattle.lua_lexer.proofs.Order.{in_order, place_reached}
+use Rattle.lua_lexer.proofs.Order.{place_reached}
 use Rattle.lua_lexer.proofs.theorems.places_count_line_ends.Goals as goal
 
 pub returns : goal.returns

@@ -1,4 +1,4 @@
-use Rattle.lua_lexer.proofs.Order.{in_order, place_reached}
+use Rattle.lua_lexer.proofs.Order.{in_order}
 use Rattle.lua_lexer.proofs.theorems.tokens_are_in_order.Goals as goal
 
 pub returns : goal.returns
