@@ -29,7 +29,10 @@ completes half b = (half == 13 && b == 10) || (half == 10 && b == 13)
 
 -- the place one byte on
 abbrev pub one_on : Spot → ℕ → Spot
-one_on s b = if is_line_byte b then (if completes s.half b then record { line = s.line; column = 1; half = 0 } else record { line = s.line + 1; column = 1; half = b }) else record { line = s.line; column = s.column + 1; half = 0 }
+one_on s b =
+    if is_line_byte b then
+    (if completes s.half b then record { line = s.line; column = 1; half = 0 } else record { line = s.line + 1; column = 1; half = b }) else
+    record { line = s.line; column = s.column + 1; half = 0 }
 
 -- the place behind these bytes
 abbrev pub further_on : Spot → Text → Spot

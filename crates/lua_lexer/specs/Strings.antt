@@ -5,7 +5,11 @@ use Rattle.lua_lexer.specs.Lines.{behind_line_byte}
 
 -- Unicode's scheme UTF-8 for a code point up to 10FFFF, surrogates too
 abbrev pub utf8 : ℕ → Text
-utf8 c = if nat_lt c 128 then c ∷ [] else (if nat_lt c 2048 then (192 + c / 64) ∷ (128 + c % 64) ∷ [] else (if nat_lt c 65536 then (224 + c / 4096) ∷ (128 + c / 64 % 64) ∷ (128 + c % 64) ∷ [] else (240 + c / 262144) ∷ (128 + c / 4096 % 64) ∷ (128 + c / 64 % 64) ∷ (128 + c % 64) ∷ []))
+utf8 c =
+    if nat_lt c 128 then c ∷ [] else
+    (if nat_lt c 2048 then (192 + c / 64) ∷ (128 + c % 64) ∷ [] else
+    (if nat_lt c 65536 then (224 + c / 4096) ∷ (128 + c / 64 % 64) ∷ (128 + c % 64) ∷ [] else
+    (240 + c / 262144) ∷ (128 + c / 4096 % 64) ∷ (128 + c / 64 % 64) ∷ (128 + c % 64) ∷ []))
 
 -- the text behind the white space at its front
 abbrev pub behind_blanks : Text → Text
@@ -14,7 +18,15 @@ behind_blanks (b ∷ t) = if is_blank b then behind_blanks t else b ∷ t
 
 -- `\a \b \f \n \r \t \v \\ \" \'` by the byte behind the backslash
 abbrev pub letter_escape : ℕ → Option ℕ
-letter_escape b = if b == 97 then Some 7 else (if b == 98 then Some 8 else (if b == 102 then Some 12 else (if b == 110 then Some 10 else (if b == 114 then Some 13 else (if b == 116 then Some 9 else (if b == 118 then Some 11 else (if b == 92 || b == 34 || b == 39 then Some b else None)))))))
+letter_escape b =
+    if b == 97 then Some 7 else
+    (if b == 98 then Some 8 else
+    (if b == 102 then Some 12 else
+    (if b == 110 then Some 10 else
+    (if b == 114 then Some 13 else
+    (if b == 116 then Some 9 else
+    (if b == 118 then Some 11 else
+    (if b == 92 || b == 34 || b == 39 then Some b else None)))))))
 
 -- `\xXX`
 abbrev pub hex_escape : Text → Option (Text × Text)
@@ -34,7 +46,9 @@ byte_escape p = if nat_le p.0 255 then Some (p.0 ∷ [], p.1) else None
 -- hexadecimal digits behind digits of this value, of together 10FFFF at most, and `}`
 abbrev pub code_point_from : ℕ → Text → Option (ℕ × Text)
 code_point_from v [] = None
-code_point_from v (b ∷ t) = if b == 125 then Some (v, t) else (if is_hex_digit b && nat_le (16 * v + hex_value b) 1114111 then code_point_from (16 * v + hex_value b) t else None)
+code_point_from v (b ∷ t) =
+    if b == 125 then Some (v, t) else
+    (if is_hex_digit b && nat_le (16 * v + hex_value b) 1114111 then code_point_from (16 * v + hex_value b) t else None)
 
 abbrev pub encoded : ℕ × Text → Text × Text
 encoded p = (utf8 p.0, p.1)
