@@ -1,18 +1,20 @@
 -- What is found is what is defined.
-use Rattle.std.proofs.Common.{◌≡◌, ℕ, ◌-◌, Bool, true, false, List, [], ◌∷◌, ◌++◌, length, refl, ap, sym, ◌∙◌, subst, subst₂}
+use Rattle.std.proofs.Common.{◌≡◌, ℕ, Bool, true, false, List, [], ◌∷◌, ◌++◌, length, refl, ap, sym, ◌∙◌, subst, subst₂, ◌<◌}
 use Rattle.tl_base.specs.declared.refusal.RefusalCode.{RefusalCode}
 use Rattle.tl_base.specs.declared.refusal.RefusalCode.TheVariants as code
+use Rattle.tl_base.specs.declared.place.Pos.{Pos}
 use Rattle.tl_base.specs.declared.refusal.Refusal.{Refusal}
 use Rattle.lua_lexer.specs.declared.lines.Spot.{Spot}
 use Rattle.lua_lexer.specs.declared.token.Token.{Token}
 use Rattle.lua_lexer.specs.declared.token.TokenKind.{TokenKind}
 use Rattle.lua_lexer.specs.declared.token.TokenKind.TheVariants as kind
 use Rattle.lua_lexer.specs.Letters.{Text, is_letter, is_quote}
-use Rattle.lua_lexer.specs.Lines.{spot_at, pos_at}
+use Rattle.lua_lexer.specs.Lines.{first_spot, spot_at, pos_at}
 use Rattle.lua_lexer.specs.Numerals.{begins_numeral, is_hexadecimal}
 use Rattle.lua_lexer.specs.Strings.{Ends, Reads, Spoils}
 use Rattle.lua_lexer.specs.Pieces.{Class, Wordlike, Numeral, Short, Cut}
-use Rattle.lua_lexer.specs.Tokens.{Skips, Means, Lexes, Faults, Refuses, token_at}
+use Rattle.lua_lexer.specs.Tokens.{Skips, Means, Lexes, Faults, Refuses, token_at, Refused, most}
+use Rattle.lua_lexer.specs.Finding.{made}
 use Rattle.lua_lexer.specs.Reading.{behind_word, behind_numeral, NeverEnds, NoSign, IsCommentTest}
 use Rattle.lua_lexer.proofs.Cuts.{cut_word, cut_numeral, cut_short, cut_unended, cut_comment, no_piece}
 use Rattle.lua_lexer.proofs.Parts.{spoils_ends}
@@ -43,10 +45,6 @@ pub no_token : {s t : Text} (b : ℕ) → s ≡ b ∷ t → is_letter b ≡ fals
 no_token {s = s} b h l m n g = subst (λ x. Faults code.L1 x x) (sym h) (Faults.bad_byte b (λ c r p. no_piece b refl l (sym (ap begins_numeral h) ∙ m) n (subst (λ x. NoSign x) h g) p))
 
 -- ---- tokens with their places
--- the token as the code makes it
-abbrev pub made : ℕ → Text → Spot → TokenKind → Text → Text → Token
-made file all spot kind from rest = record { kind = kind; start = length all - length from; end = length all - length rest; pos = record { «module» = file; line = spot.line; column = spot.column } }
-
 pub made_is : (file : ℕ) (all from rest : Text) (kind : TokenKind) (spot : Spot) → spot ≡ spot_at all from → made file all spot kind from rest ≡ token_at file all kind from rest
 made_is file all from rest kind spot e = ap (λ x. made file all x kind from rest) e
 
@@ -66,3 +64,17 @@ tokens_start {file = file} {all = all} h e ts f = subst₂ (λ x y. Lexes file a
 
 pub faults_start : {rest from : Text} → rest ≡ from → (c : RefusalCode) (place : Text) → Refuses rest c place → Refuses from c place
 faults_start e c place f = subst (λ x. Refuses x c place) e f
+
+pub finish_made : {file : ℕ} {all rest : Text} {one : Token} (from : Text) (spot : Spot) → one ≡ made file all spot kind.End from from → Skips rest from → from ≡ [] → spot ≡ spot_at all from → Lexes file all rest (one ∷ [])
+finish_made {file = file} {all = all} {rest = rest} from spot h k e g = subst (λ x. Lexes file all rest (x ∷ [])) (sym h) (finish_at from spot k e g)
+
+pub token_made : {file : ℕ} {all t from rest : Text} {c : Class} {kind : TokenKind} {one : Token} (spot : Spot) → one ≡ made file all spot kind from rest → Skips t from → Cut c from rest → Means c from rest kind → spot ≡ spot_at all from → (ts : List Token) → Lexes file all rest ts → Lexes file all t (one ∷ ts)
+token_made {file = file} {all = all} {t = t} spot h k u m e ts f = subst (λ x. Lexes file all t (x ∷ ts)) (sym h) (token_found spot k u m e f)
+
+pub refusal_made : (file : ℕ) (all place : Text) (c : RefusalCode) (spot : Spot) (p : Pos) → p ≡ record { «module» = file; line = spot.line; column = spot.column } → spot ≡ spot_at all place → ◌≡◌ {A = Refusal} (record { code = c; pos = p }) (record { code = c; pos = pos_at file all place })
+refusal_made file all place c spot p h e = ap (λ (x : Pos). record { code = c; pos = x }) h ∙ refusal_at file all place c spot e
+
+pub long_made : (file : ℕ) (text : Text) (spot : Spot) (p : Pos) → p ≡ record { «module» = file; line = spot.line; column = spot.column } → spot ≡ first_spot → most < length text → Refused file text (record { code = code.L5; pos = p })
+long_made file text spot p h e l =
+    let k : p ≡ record { «module» = file; line = 1; column = 1 } = h ∙ ap (λ (x : Spot). record { «module» = file; line = x.line; column = x.column }) e in
+    subst (λ (x : Pos). Refused file text (record { code = code.L5; pos = x })) (sym k) (Refused.too_long l)

@@ -1,7 +1,9 @@
 -- What is found at the front of a text, and what one turn of the reading does.
-use Rattle.std.specs.Prelude.{◌≡◌, ℕ, ◌<◌, List, [], ◌∷◌, ◌++◌, length}
+use Rattle.std.specs.Prelude.{◌≡◌, ℕ, ◌-◌, ◌<◌, List, [], ◌∷◌, ◌++◌, length}
 use Rattle.tl_base.specs.declared.refusal.RefusalCode.{RefusalCode}
 use Rattle.lua_lexer.specs.declared.token.Token.{Token}
+use Rattle.lua_lexer.specs.declared.lines.Spot.{Spot}
+use Rattle.lua_lexer.specs.declared.token.TokenKind.{TokenKind}
 use Rattle.lua_lexer.specs.declared.pieces.Found.{Found}
 use Rattle.lua_lexer.specs.declared.pieces.Found.TheVariants as f
 use Rattle.lua_lexer.specs.declared.lexing.Turn.{Turn}
@@ -11,6 +13,10 @@ use Rattle.lua_lexer.specs.Lines.{spot_at, pos_at}
 use Rattle.lua_lexer.specs.Pieces.{Class, Cut}
 use Rattle.lua_lexer.specs.Tokens.{Means, Faults, Lexes, Refuses}
 use Rattle.lua_lexer.specs.Reading.{EndsWith}
+
+-- the token as the code makes it
+abbrev pub made : ℕ → Text → Spot → TokenKind → Text → Text → Token
+made file all spot kind from rest = record { kind = kind; start = length all - length from; end = length all - length rest; pos = record { «module» = file; line = spot.line; column = spot.column } }
 
 -- a token and what follows it, or a fault and the text from its place on
 abbrev pub IsFound : Text → Found → Type 0

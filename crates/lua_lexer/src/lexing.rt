@@ -2,7 +2,7 @@ ghost use Rattle.std.specs.Prelude.{◌≡◌, ◌+◌, ◌≤◌, ◌<◌, leng
 ghost use Rattle.lua_lexer.specs.Lines.{span, spot_at, first_spot};
 ghost use Rattle.lua_lexer.specs.Reading.{EndsWith};
 ghost use Rattle.lua_lexer.specs.Tokens.{body, most, Lexed, Refused, IsFailure, IsTokens, IsRefusal};
-ghost use Rattle.lua_lexer.specs.Finding.{IsTurn};
+ghost use Rattle.lua_lexer.specs.Finding.{IsTurn, made};
 ghost use Rattle.lua_lexer.specs.declared.token.Token.{Token};
 ghost use Rattle.tl_base.specs.declared.refusal.Refusal.{Refusal};
 
@@ -11,7 +11,7 @@ use crate::pieces::{Found, find};
 use crate::separators::skip;
 use crate::{Token, TokenKind};
 use std::alloc::Global;
-use tl_base::{Failure, List, Pos, Refusal, RefusalCode};
+use tl_base::{Failure, List, Refusal, RefusalCode};
 
 /// The greatest length of a file.
 const MOST: usize = 1048576;
@@ -54,6 +54,28 @@ fn place(all: &[u8], spot: Spot, from: &[u8], to: &[u8]) -> Spot
     spot.further_on(&from[..from.len() - to.len()])
 }
 
+/// The token of a kind between two ends of the text.
+fn make_token(
+    module: u32,
+    all: &[u8],
+    kind: TokenKind,
+    spot: Spot,
+    from: &[u8],
+    rest: &[u8],
+) -> Token
+    requires fits { length all.now ≤ most }
+    requires from { length from.now ≤ length all.now }
+    requires rest { length rest.now ≤ length all.now }
+    ensures { result ≡ made «module» all.now spot kind from.now rest.now }
+{
+    Token {
+        kind,
+        start: (all.len() - from.len()) as u32,
+        end: (all.len() - rest.len()) as u32,
+        pos: spot.pos(module),
+    }
+}
+
 /// Reads the separators and the token at the front of the rest of the text.
 fn read_one<'a>(
     alloc: Global,
@@ -70,47 +92,24 @@ fn read_one<'a>(
 {
     let from = skip(rest);
     let start = place(all, spot, rest, from);
-    let pos = Pos {
-        module,
-        line: start.line,
-        column: start.column,
-    };
-    let offset = (all.len() - from.len()) as u32;
-    let Some((first, tail)) = front(from) else {
-        let token = Token {
-            kind: TokenKind::End,
-            start: offset,
-            end: offset,
-            pos,
-        };
-        return match tokens.push(token) {
+    match front(from) {
+        None => match tokens.push(make_token(module, all, TokenKind::End, start, from, from)) {
             Ok(()) => Turn::Done,
             Err(_) => Turn::NoMemory,
-        };
-    };
-    match find(alloc, from, first, tail) {
-        Found::NoMemory => Turn::NoMemory,
-        Found::Fault(code, at) => {
-            let spot = place(all, start, from, at);
-            let pos = Pos {
-                module,
-                line: spot.line,
-                column: spot.column,
-            };
-            Turn::Refused(Refusal { code, pos })
-        }
-        Found::Token(kind, after) => {
-            let token = Token {
-                kind,
-                start: offset,
-                end: (all.len() - after.len()) as u32,
-                pos,
-            };
-            match tokens.push(token) {
+        },
+        Some((first, tail)) => match find(alloc, from, first, tail) {
+            Found::NoMemory => Turn::NoMemory,
+            Found::Fault(code, at) => {
+                let pos = place(all, start, from, at).pos(module);
+                Turn::Refused(Refusal { code, pos })
+            }
+            Found::Token(kind, after) => match tokens.push(make_token(
+                module, all, kind, start, from, after,
+            )) {
                 Ok(()) => Turn::On(after, place(all, start, from, after)),
                 Err(_) => Turn::NoMemory,
-            }
-        }
+            },
+        },
     }
 }
 
@@ -122,12 +121,7 @@ fn read(alloc: Global, module: u32, bytes: &[u8]) -> Result<List<Token>, Failure
 {
     let mut tokens = List::new(alloc);
     let mut rest = body(bytes);
-    let first = Spot {
-        line: 1,
-        column: 1,
-        half: 0,
-    };
-    let mut spot = place(bytes, first, bytes, rest);
+    let mut spot = place(bytes, Spot::first(), bytes, rest);
     loop {
         match read_one(alloc, module, bytes, &mut tokens, rest, spot) {
             Turn::On(after, next) => {
@@ -150,14 +144,9 @@ pub fn lex(alloc: Global, module: u32, bytes: &[u8]) -> Result<List<Token>, Fail
     ensures only_refusal { (r : Refusal) → Refused «module» bytes.now r → IsRefusal r result }
 {
     if bytes.len() > MOST {
-        let pos = Pos {
-            module,
-            line: 1,
-            column: 1,
-        };
         return Err(Failure::Refused(Refusal {
             code: RefusalCode::L5,
-            pos,
+            pos: Spot::first().pos(module),
         }));
     }
     read(alloc, module, bytes)

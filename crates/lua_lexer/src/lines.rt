@@ -1,7 +1,8 @@
 ghost use Rattle.std.specs.Prelude.{◌≡◌, ◌+◌, ◌^◌, ◌<◌, [], ◌∷◌, MatchOption, length};
-ghost use Rattle.lua_lexer.specs.Lines.{behind_line_byte, behind_line_end, to_line_end, one_on, further_on};
+ghost use Rattle.lua_lexer.specs.Lines.{behind_line_byte, behind_line_end, to_line_end, one_on, further_on, first_spot};
 
 use crate::letters::is_line_byte;
+use tl_base::Pos;
 
 /// The first byte and what follows it.
 pub(crate) fn front(text: &[u8]) -> Option<(u8, &[u8])>
@@ -69,6 +70,28 @@ pub(crate) struct Spot {
 }
 
 impl Spot {
+    /// The first place of a file.
+    pub(crate) fn first() -> Spot
+        ensures { result ≡ first_spot }
+    {
+        Spot {
+            line: 1,
+            column: 1,
+            half: 0,
+        }
+    }
+
+    /// The place in the file of this number.
+    pub(crate) fn pos(self, module: u32) -> Pos
+        ensures { result ≡ record { «module» = «module»; line = self.line; column = self.column } }
+    {
+        Pos {
+            module,
+            line: self.line,
+            column: self.column,
+        }
+    }
+
     /// The place one byte on.
     fn one_on(self, byte: u8) -> Spot
         requires line { self.line + 1 < 2 ^ 32 }
