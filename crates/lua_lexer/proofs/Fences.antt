@@ -5,7 +5,7 @@ use Rattle.lua_lexer.specs.Letters.{Text, is_line_byte, is_blank}
 use Rattle.lua_lexer.specs.Lines.{span, to_line_end}
 use Rattle.lua_lexer.specs.Brackets.{Fence, Opens, Shuts, Closes}
 use Rattle.lua_lexer.specs.Tokens.{Separator}
-use Rattle.lua_lexer.specs.Reading.{NoFence, NeverOpens, NeverShuts, NeverCloses, NoSeparator, Comment, NoComment}
+use Rattle.lua_lexer.specs.Reading.{NoFence, NeverOpens, NeverShuts, NeverCloses, Comment, NoComment}
 use Rattle.lua_lexer.proofs.Once.{fence_two, opens_two, no_blank}
 
 pub fence_done : {last b : ℕ} {s t : Text} → s ≡ b ∷ t → b ≡ last → Fence last 0 s t
@@ -18,14 +18,6 @@ pub fence_absent : {last b : ℕ} {s t : Text} → s ≡ b ∷ t → (b ≡ last
 fence_absent h e out n r Fence.done = e (cc)
 fence_absent {last = last} h e out n r (Fence.more {n = m} f) = out m r (subst (λ x. Fence last m x r) (cc) f)
 
-pub fence_other : {last b : ℕ} {s t : Text} → s ≡ b ∷ t → (b ≡ last → ⊥) → (b ≡ 61 → ⊥) → NoFence last s
-fence_other h e d n r Fence.done = e (cc)
-fence_other h e d n r (Fence.more f) = d (cc)
-
-pub fence_empty : {last : ℕ} {s : Text} → s ≡ [] → NoFence last s
-fence_empty h n r Fence.done = cc
-fence_empty h n r (Fence.more f) = cc
-
 pub opens_at : {b n : ℕ} {s t r : Text} → s ≡ b ∷ t → b ≡ 91 → Fence 91 n t r → Opens n s r
 opens_at {n = n} {s = s} {t = t} {r = r} h e f = let k : s ≡ 91 ∷ t = cc in subst (λ x. Opens n x r) (sym k) (Opens.opens f)
 
@@ -34,9 +26,6 @@ never_opens h out n r (Opens.opens f) = out n r (subst (λ x. Fence 91 n x r) (c
 
 pub shuts_at : {b n m : ℕ} {s t r : Text} → s ≡ b ∷ t → b ≡ 93 → n ≡ m → Fence 93 n t r → Shuts m s r
 shuts_at {n = n} {m = m} {s = s} {t = t} {r = r} h e d f = let k : s ≡ 93 ∷ t = cc in subst (λ x. Shuts m x r) (sym k) (Shuts.shuts (subst (λ x. Fence 93 x t r) d f))
-
-pub never_shuts : {b n : ℕ} {s t : Text} → s ≡ b ∷ t → NoFence 93 t → NeverShuts n s
-never_shuts {n = n} h out r (Shuts.shuts f) = out n r (subst (λ x. Fence 93 n x r) (cc) f)
 
 pub other_level : {b n m : ℕ} {s t r : Text} → s ≡ b ∷ t → (n ≡ m → ⊥) → Fence 93 n t r → NeverShuts m s
 other_level h e f r (Shuts.shuts g) = e (fence_two refl (cc) f g).0
@@ -105,26 +94,5 @@ no_comment_of {u = u} {r = r} o out h (Separator.bracket {bs = bs} m p f) = let 
 pub no_comment : {n : ℕ} {t u : Text} → Opens n t u → NeverCloses n u → NoComment t
 no_comment {n = n} {t = t} {u = u} o out r f = no_comment_of o out refl f
 
-pub comment_at : {a b : ℕ} {s t u r : Text} → s ≡ a ∷ t → a ≡ 45 → t ≡ b ∷ u → b ≡ 45 → Comment u r → Separator s r
-comment_at {s = s} {u = u} {r = r} h e k d f = let g : s ≡ 45 ∷ 45 ∷ u = cc in subst (λ x. Separator x r) (sym g) f
-
-pub no_comment_at : {a b : ℕ} {s t u : Text} → s ≡ a ∷ t → a ≡ 45 → t ≡ b ∷ u → b ≡ 45 → NoComment u → NoSeparator s
-no_comment_at {s = s} {u = u} h e k d f r g = let i : s ≡ 45 ∷ 45 ∷ u = cc in f r (subst (λ x. Separator x r) i g)
-
 pub blank_at : {b : ℕ} {s t : Text} → s ≡ b ∷ t → is_blank b ≡ true → Separator s t
 blank_at {b = b} {s = s} {t = t} h e = subst (λ x. Separator x t) (sym h) (Separator.blank b e)
-
-pub no_separator_empty : {s : Text} → s ≡ [] → NoSeparator s
-no_separator_empty h r (Separator.blank b l) = cc
-no_separator_empty h r (Separator.line e) = cc
-no_separator_empty h r (Separator.bracket n o f) = cc
-
-pub no_separator_at : {b : ℕ} {s t : Text} → s ≡ b ∷ t → is_blank b ≡ false → (b ≡ 45 → ⊥) → NoSeparator s
-no_separator_at {b = b} h e d r (Separator.blank c l) = let k : c ≡ b = cc in let g : true ≡ false = sym l ∙ ap is_blank k ∙ e in cc
-no_separator_at h e d r (Separator.line o) = d (cc)
-no_separator_at h e d r (Separator.bracket n o f) = d (cc)
-
-pub no_separator_one : {b : ℕ} {s t : Text} → s ≡ b ∷ t → is_blank b ≡ false → ((u : Text) → t ≡ 45 ∷ u → ⊥) → NoSeparator s
-no_separator_one {b = b} h e d r (Separator.blank c l) = let k : c ≡ b = cc in let g : true ≡ false = sym l ∙ ap is_blank k ∙ e in cc
-no_separator_one h e d r (Separator.line {t = u} o) = d u (cc)
-no_separator_one h e d r (Separator.bracket {t = u} n o f) = d u (cc)

@@ -32,15 +32,6 @@ bad_at {q = q} {c = c} {s = s} {t = t} {u = u} {r = r} h e k d f = let g : s ≡
 slash_quote : {q : ℕ} → is_quote q ≡ true → 92 ≡ q → ⊥
 slash_quote {q = q} l e = grind (arith, nat_tests)
 
-line_quote : {q b : ℕ} → is_quote q ≡ true → is_line_byte b ≡ true → b ≡ q → ⊥
-line_quote {q = q} {b = b} l k e = grind (arith, nat_tests)
-
-line_slash : {b : ℕ} → is_line_byte b ≡ true → b ≡ 92 → ⊥
-line_slash {b = b} k e = grind (arith, nat_tests)
-
-line_plain : (q b c : ℕ) → is_line_byte b ≡ true → b ≡ c → is_plain q c ≡ true → ⊥
-line_plain q b c k e l = grind (arith, nat_tests)
-
 line_end_at : (b : ℕ) (t : Text) → is_line_byte b ≡ true → behind_line_end (b ∷ t) ≡ Some (behind_line_byte b t)
 line_end_at b t l = rw l refl
 
@@ -60,22 +51,11 @@ never_ends_bad {q = q} l h e k d out r Ends.close = let g : ◌≡◌ {A = ℕ} 
 never_ends_bad {s = s} {t = t} l h e k d out r (Ends.good p g) = let i : s ≡ 92 ∷ t = cc in part_bad d i p
 never_ends_bad {q = q} {u = u} l h e k d out r (Ends.bad {t = v} b n g) = let i : v ≡ u = cc in out r (subst (λ x. Ends q x r) i g)
 
-pub never_ends_last : {q b : ℕ} {s t : Text} → is_quote q ≡ true → s ≡ b ∷ t → b ≡ 92 → t ≡ [] → NeverEnds q s
-never_ends_last {q = q} l h e k r Ends.close = let g : ◌≡◌ {A = ℕ} 92 q = cc in slash_quote l g
-never_ends_last {s = s} l h e k r (Ends.good p g) = let i : s ≡ 92 ∷ [] = cc in part_bad refl i p
-never_ends_last l h e k r (Ends.bad b n g) = cc
-
 pub never_ends_empty : {q : ℕ} {s : Text} → s ≡ [] → NeverEnds q s
 never_ends_empty h r Ends.close = cc
 never_ends_empty h r (Ends.good (Part.plain b l) g) = cc
 never_ends_empty h r (Ends.good (Part.escaped l) g) = cc
 never_ends_empty h r (Ends.bad b n g) = cc
-
-pub never_ends_line : {q b : ℕ} {s t : Text} → is_quote q ≡ true → s ≡ b ∷ t → is_line_byte b ≡ true → NeverEnds q s
-never_ends_line {q = q} {b = b} l h e r Ends.close = line_quote {q = q} {b = b} l e (cc)
-never_ends_line {q = q} {b = b} l h e r (Ends.good (Part.plain c k) g) = line_plain q b c e (cc) k
-never_ends_line {b = b} l h e r (Ends.good (Part.escaped k) g) = line_slash {b = b} e (cc)
-never_ends_line {b = b} l h e r (Ends.bad c n g) = line_slash {b = b} e (cc)
 
 pub spoils_ends : {q : ℕ} {t u r : Text} → Spoils q t u → Ends q u r → Ends q t r
 spoils_ends (Spoils.here n) f = f
@@ -110,9 +90,6 @@ line_byte_step false c t = omega arith
 pub line_byte_shorter : (b : ℕ) (t : Text) → length (behind_line_byte b t) ≤ length t
 line_byte_shorter b [] = omega arith
 line_byte_shorter b (c ∷ t) = line_byte_step (is_line_byte c && not (b == c)) c t
-
-pub unified_to : {t new : Text} (out more : Text) (c : ℕ) → new ≡ out ++ c ∷ [] → Unified t (out ++ c ∷ more) → Unified t (new ++ more)
-unified_to {t = t} {new = new} out more c e f = subst (λ x. Unified t x) (sym (append_assoc out (c ∷ []) more) ∙ ap (λ x. x ++ more) (sym e)) f
 
 pub unified_end : {t s : Text} (out : Text) → s ≡ [] → ((more : Text) → Unified s more → Unified t (out ++ more)) → Unified t out
 unified_end {t = t} {s = s} out h f = subst (λ x. Unified t x) (append-nil out) (f [] (subst (λ x. Unified x []) (sym h) Unified.nothing))

@@ -50,6 +50,3 @@ column_bounded {all = all} {s = s} d =
     let e = ap length (span_pre d.0 s d.1) in
     let h = ap length d.1 in
     omega (arith, g.1, e, h, length-append d.0 s)
-
-pub spot_first : (all : Text) → spot_at all all ≡ first_spot
-spot_first all = ap (λ x. further_on first_spot x) (span_pre [] all refl)

@@ -42,7 +42,7 @@ fn body(text: &[u8]) -> &[u8]
     }
 }
 
-/// The place of an end of the text, from that of an earlier one.
+/// The place of an end of the text, from that of an earlier one. Only the contract speaks of the whole text.
 fn place(all: &[u8], spot: Spot, from: &[u8], to: &[u8]) -> Spot
     requires fits { length all.now ≤ most }
     requires spot { spot ≡ spot_at all.now from.now }
@@ -50,7 +50,6 @@ fn place(all: &[u8], spot: Spot, from: &[u8], to: &[u8]) -> Spot
     requires to { EndsWith from.now to.now }
     ensures { result ≡ spot_at all.now to.now }
 {
-    let _all = all;
     spot.further_on(&from[..from.len() - to.len()])
 }
 
