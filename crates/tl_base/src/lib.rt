@@ -19,3 +19,6 @@ pub use memory::NoMemory;
 pub use place::{ModuleKind, Pos};
 pub use refusal::{Failure, Refusal, RefusalCode};
 pub use turn::Turns;
+
+#[cfg(test)]
+mod tests;

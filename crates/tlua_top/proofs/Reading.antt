@@ -54,22 +54,26 @@ pub record Chained (names : Names) (n : ℕ) (e : Exp) (ts : Tokens) : Type 0 wh
 module _ (names : Names) (m n : ℕ) (a b : Exp) (ts us : Tokens) (p : Pos) where
   plus_chained : Chained names m a ts → Product names n b us → Chained names (m + n) (binary (place_of a) operator.Add a b) (ts ++ at p (kind.Symbol sign.Plus) ∷ us)
   plus_chained front back = record {
-    sum = Some (a, operator.Add); last_product = b; is = refl;
+    sum = Some (a, operator.Add);
+    last_product = b;
+    is = refl;
     read = λ lines g rest few.
-      let moved : (ts ++ at p (kind.Symbol sign.Plus) ∷ us) ++ rest ≡ ts ++ (at p (kind.Symbol sign.Plus) ∷ (us ++ rest)) = append_assoc ts (at p (kind.Symbol sign.Plus) ∷ us) rest in
-      ap (run (standing names lines (wanting g fresh))) moved ∙ front.read lines g (at p (kind.Symbol sign.Plus) ∷ (us ++ rest)) (omega arith)
-      ∙ ap (λ x. run (standing names lines (wanting g (record { sum = Some (x, operator.Add); product = None; atoms = m }))) (us ++ rest)) front.is
-      ∙ product_read back lines g (Some (a, operator.Add)) m rest few;
+        let moved : (ts ++ at p (kind.Symbol sign.Plus) ∷ us) ++ rest ≡ ts ++ (at p (kind.Symbol sign.Plus) ∷ (us ++ rest)) = append_assoc ts (at p (kind.Symbol sign.Plus) ∷ us) rest in
+        ap (run (standing names lines (wanting g fresh))) moved ∙ front.read lines g (at p (kind.Symbol sign.Plus) ∷ (us ++ rest)) (omega arith)
+        ∙ ap (λ x. run (standing names lines (wanting g (record { sum = Some (x, operator.Add); product = None; atoms = m }))) (us ++ rest)) front.is
+        ∙ product_read back lines g (Some (a, operator.Add)) m rest few;
   }
 
   minus_chained : Chained names m a ts → Product names n b us → Chained names (m + n) (binary (place_of a) operator.Subtract a b) (ts ++ at p (kind.Symbol sign.Minus) ∷ us)
   minus_chained front back = record {
-    sum = Some (a, operator.Subtract); last_product = b; is = refl;
+    sum = Some (a, operator.Subtract);
+    last_product = b;
+    is = refl;
     read = λ lines g rest few.
-      let moved : (ts ++ at p (kind.Symbol sign.Minus) ∷ us) ++ rest ≡ ts ++ (at p (kind.Symbol sign.Minus) ∷ (us ++ rest)) = append_assoc ts (at p (kind.Symbol sign.Minus) ∷ us) rest in
-      ap (run (standing names lines (wanting g fresh))) moved ∙ front.read lines g (at p (kind.Symbol sign.Minus) ∷ (us ++ rest)) (omega arith)
-      ∙ ap (λ x. run (standing names lines (wanting g (record { sum = Some (x, operator.Subtract); product = None; atoms = m }))) (us ++ rest)) front.is
-      ∙ product_read back lines g (Some (a, operator.Subtract)) m rest few;
+        let moved : (ts ++ at p (kind.Symbol sign.Minus) ∷ us) ++ rest ≡ ts ++ (at p (kind.Symbol sign.Minus) ∷ (us ++ rest)) = append_assoc ts (at p (kind.Symbol sign.Minus) ∷ us) rest in
+        ap (run (standing names lines (wanting g fresh))) moved ∙ front.read lines g (at p (kind.Symbol sign.Minus) ∷ (us ++ rest)) (omega arith)
+        ∙ ap (λ x. run (standing names lines (wanting g (record { sum = Some (x, operator.Subtract); product = None; atoms = m }))) (us ++ rest)) front.is
+        ∙ product_read back lines g (Some (a, operator.Subtract)) m rest few;
   }
 
 pub chained : {names : Names} {n : ℕ} {e : Exp} {ts : Tokens} → Sum names n e ts → Chained names n e ts
@@ -96,11 +100,18 @@ module _ (names : Names) (es : List Exp) (e : Exp) (ts us : Tokens) (q : Pos) wh
   more_argued : Argued names es ts → Spells names e us → Argued names (es ++ e ∷ []) (ts ++ at q (kind.Symbol sign.Comma) ∷ us)
   more_argued a s =
       let c = chained s.chain in
-      record { front = es; sum = c.sum; last_product = c.last_product; atoms = s.atoms; is = ap (λ x. es ++ x ∷ []) c.is; read = λ lines p rest.
-          let moved : (ts ++ at q (kind.Symbol sign.Comma) ∷ us) ++ rest ≡ ts ++ (at q (kind.Symbol sign.Comma) ∷ (us ++ rest)) = append_assoc ts (at q (kind.Symbol sign.Comma) ∷ us) rest in
-          ap (run (standing names lines (wanting (argument p []) fresh))) moved ∙ a.read lines p (at q (kind.Symbol sign.Comma) ∷ (us ++ rest))
-          ∙ ap (λ x. run (standing names lines (wanting (argument p x) fresh)) (us ++ rest)) a.is
-          ∙ c.read lines (argument p es) rest s.few }
+      record {
+        front = es;
+        sum = c.sum;
+        last_product = c.last_product;
+        atoms = s.atoms;
+        is = ap (λ x. es ++ x ∷ []) c.is;
+        read = λ lines p rest.
+            let moved : (ts ++ at q (kind.Symbol sign.Comma) ∷ us) ++ rest ≡ ts ++ (at q (kind.Symbol sign.Comma) ∷ (us ++ rest)) = append_assoc ts (at q (kind.Symbol sign.Comma) ∷ us) rest in
+            ap (run (standing names lines (wanting (argument p []) fresh))) moved ∙ a.read lines p (at q (kind.Symbol sign.Comma) ∷ (us ++ rest))
+            ∙ ap (λ x. run (standing names lines (wanting (argument p x) fresh)) (us ++ rest)) a.is
+            ∙ c.read lines (argument p es) rest s.few;
+      }
 
 pub argued : {names : Names} {es : List Exp} {ts : Tokens} → Arguments names es ts → Argued names es ts
 argued {names} (one {e} {ts} s) = one_argued names [] e [] ts (record { «module» = 0; line = 0; column = 0 }) s

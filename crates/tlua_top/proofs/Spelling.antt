@@ -40,7 +40,7 @@ pub data Before (names : Names) : Goal → Tokens → Type 0 where
   plain : (p q r : Pos) (w : Text) → Before names (initial p w None) (at p (kind.Word word.Local) ∷ at q (kind.Word (word.Name w)) ∷ at r (kind.Symbol sign.Equals) ∷ [])
   annotated : (p q r s u : Pos) (w : Text) (n : Word) (t : TypeName) → type_of n ≡ Some t
       → Before names (initial p w (Some t))
-        (at p (kind.Word word.Local) ∷ at q (kind.Word (word.Name w)) ∷ at r (kind.Symbol sign.Colon) ∷ at s (kind.Word n) ∷ at u (kind.Symbol sign.Equals) ∷ [])
+      (at p (kind.Word word.Local) ∷ at q (kind.Word (word.Name w)) ∷ at r (kind.Symbol sign.Colon) ∷ at s (kind.Word n) ∷ at u (kind.Symbol sign.Equals) ∷ [])
   assigned : (p q : Pos) (w : Text) (x : ℕ) → number_of names w ≡ Some x → Before names (stored p x) (at p (kind.Word (word.Name w)) ∷ at q (kind.Symbol sign.Equals) ∷ [])
 
 -- the tokens of the statement that is begun
@@ -119,8 +119,12 @@ pub record Listed (names : Names) (p : Pos) (es : List Exp) (ts : Tokens) : Type
 
 listed : {names : Names} {p : Pos} {es : List Exp} {e : Exp} {bs us : Tokens} → Before names (argument p es) bs → Spells names e us → Listed names p (es ++ e ∷ []) (bs ++ us)
 listed (first p q) s = record { open_at = q; inner = _; listed = one s; is = refl }
-listed {us = us} (later {ts = ts} p q r a) s = record { open_at = q; inner = ts ++ at r (kind.Symbol sign.Comma) ∷ us; listed = more r a s;
-    is = ap (λ x. at p (kind.Word word.Print) ∷ at q (kind.Symbol sign.Open) ∷ x) (append_assoc ts (at r (kind.Symbol sign.Comma) ∷ []) us) }
+listed {us = us} (later {ts = ts} p q r a) s = record {
+  open_at = q;
+  inner = ts ++ at r (kind.Symbol sign.Comma) ∷ us;
+  listed = more r a s;
+  is = ap (λ x. at p (kind.Word word.Print) ∷ at q (kind.Symbol sign.Open) ∷ x) (append_assoc ts (at r (kind.Symbol sign.Comma) ∷ []) us);
+}
 
 module _ (names : Names) (lines : List Line) (front : Tokens) (b : Block [] lines front names) where
   abbrev Ends : Tokens → Names × List Line → Type 0
@@ -137,7 +141,7 @@ module _ (names : Names) (lines : List Line) (front : Tokens) (b : Block [] line
     where
       fits : (o : Bool) → nat_le 200 (length names) ≡ o
           → Reached (Ends (at p (kind.Word word.Local) ∷ at q (kind.Word (word.Name w)) ∷ at r (kind.Symbol sign.Colon) ∷ at z (kind.Word n) ∷ at u (kind.Symbol sign.Equals) ∷ us))
-            (if o then None else Some (w ∷ names, lines ++ declare p (Some t) e ∷ []))
+          (if o then None else Some (w ∷ names, lines ++ declare p (Some t) e ∷ []))
       fits true is = tt
       fits false is = block_more b (with_annotation p q r z u w n t names_type (above_not _ is) s)
   closed_holds (stored p x) e bs us (assigned p' q w x' is) s = block_more b (assigning p q w x is s)
@@ -164,7 +168,8 @@ module _ (names : Names) (lines : List Line) (front : Tokens) (b : Block [] line
   sign_holds (argument p es) s e n inside (having {bs = bs} {ls = ls} {ps = ps} n' before left pr is few) q sign.Close =
       let l = listed before (spells left pr is few) in
       record {
-        front = front ++ (at p (kind.Word word.Print) ∷ at l.open_at (kind.Symbol sign.Open) ∷ (l.inner ++ at q (kind.Symbol sign.Close) ∷ [])); inside = [];
+        front = front ++ (at p (kind.Word word.Print) ∷ at l.open_at (kind.Symbol sign.Open) ∷ (l.inner ++ at q (kind.Symbol sign.Close) ∷ []));
+        inside = [];
         is = rw l.is (simp (append_assoc, append-nil));
         block = block_more b (printing p l.open_at q l.listed);
         stage = between;

@@ -99,8 +99,8 @@ pub data Statement (names : Names) : Line → Tokens → Names → Type 0 where
       → Statement names (declare p None e) (at p (kind.Word word.Local) ∷ at q (kind.Word (word.Name w)) ∷ at r (kind.Symbol sign.Equals) ∷ ts) (w ∷ names)
   typing : {e : Exp} {ts : Tokens} (p q r s u : Pos) (w : Text) (n : Word) (t : TypeName) → type_of n ≡ Some t → length names < 200 → Spells names e ts
       → Statement names (declare p (Some t) e)
-        (at p (kind.Word word.Local) ∷ at q (kind.Word (word.Name w)) ∷ at r (kind.Symbol sign.Colon) ∷ at s (kind.Word n) ∷ at u (kind.Symbol sign.Equals) ∷ ts)
-        (w ∷ names)
+      (at p (kind.Word word.Local) ∷ at q (kind.Word (word.Name w)) ∷ at r (kind.Symbol sign.Colon) ∷ at s (kind.Word n) ∷ at u (kind.Symbol sign.Equals) ∷ ts)
+      (w ∷ names)
   assigning : {e : Exp} {ts : Tokens} (p q : Pos) (w : Text) (x : ℕ) → number_of names w ≡ Some x → Spells names e ts
       → Statement names (assign p x e) (at p (kind.Word (word.Name w)) ∷ at q (kind.Symbol sign.Equals) ∷ ts) names
 

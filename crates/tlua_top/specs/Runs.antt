@@ -37,8 +37,13 @@ error_of e = record { place = e.place; after = e.after }
 -- the state of the run, where this input and so many turns are left
 abbrev pub state_of : Text → ℕ → Machine → State
 state_of input turns m = record {
-  words = m.file ∷ []; kinds = m.kind ∷ []; output = m.output; input = input; turns = turns;
-  mark = m.mark; error = option_map error_of m.error
+  words = m.file ∷ [];
+  kinds = m.kind ∷ [];
+  output = m.output;
+  input = input;
+  turns = turns;
+  mark = m.mark;
+  error = option_map error_of m.error;
 }
 
 -- a part of the run gave this, or raised an error; want of memory says nothing

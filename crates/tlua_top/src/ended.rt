@@ -13,18 +13,18 @@ ghost use Rattle.tlua_top.specs.Runs.{error_of};
 ghost use Rattle.tlua_top.specs.declared.ended.Unknown.TheVariants as unknown;
 ghost use Rattle.tlua_top.specs.Ended.{ending_of, outcome_of, lines_after, HasReading, Checks};
 
-use std::alloc::Global;
-
-use lua_tree::{Chunk, Expr, Stat};
-use tl_base::{Bytes, Crossing, Failure, ModuleKind, NoMemory, Pos, Refusal, RefusalCode};
-use tl_edge::{Files, FilesError, Found};
-
 use crate::check::{Checked, check_chunk};
 use crate::reader::{ReadError, read};
-use crate::report::{crossing_lines, push_crossing, push_error_text, push_number, push_place, refusal_line};
+use crate::report::{
+    crossing_lines, push_crossing, push_error_text, push_number, push_place, refusal_line,
+};
 use crate::run::{FirstError, Outcome, Ran, run};
 use crate::status::Status;
 use crate::words::{file_to_run, kind_of_word};
+use lua_tree::{Chunk, Expr, Stat};
+use std::alloc::Global;
+use tl_base::{Bytes, Crossing, Failure, ModuleKind, NoMemory, Pos, Refusal, RefusalCode};
+use tl_edge::{Files, FilesError, Found};
 
 const LONGEST_FILE: u64 = 1_048_576;
 
@@ -116,7 +116,10 @@ fn is_untyped_line(line: &Stat) -> bool
     ensures { result ≡ is_untyped_line (line_of line.now) }
 {
     match line {
-        Stat::Print(_, exprs) => exprs.as_slice().iter().all(|expr| is_untyped_argument(expr)),
+        Stat::Print(_, exprs) => exprs
+            .as_slice()
+            .iter()
+            .all(|expr| is_untyped_argument(expr)),
         _ => false,
     }
 }
@@ -144,7 +147,14 @@ fn checked(alloc: Global, kind: ModuleKind, source: &[u8]) -> Result<Checked, Fa
     if !admits(kind, body.as_slice()) {
         return Err(Failure::Refused(whole_file(RefusalCode::X1)));
     }
-    check_chunk(alloc, Chunk { module: 0, kind, body })
+    check_chunk(
+        alloc,
+        Chunk {
+            module: 0,
+            kind,
+            body,
+        },
+    )
 }
 
 fn push_kind_line(to: &mut Bytes, file: &[u8], error: FirstError) -> Result<(), NoMemory>
@@ -157,7 +167,11 @@ fn push_kind_line(to: &mut Bytes, file: &[u8], error: FirstError) -> Result<(), 
     to.extend(b"\n")
 }
 
-fn push_first_crossing(to: &mut Bytes, file: &[u8], crossing: Option<Crossing>) -> Result<(), NoMemory>
+fn push_first_crossing(
+    to: &mut Bytes,
+    file: &[u8],
+    crossing: Option<Crossing>,
+) -> Result<(), NoMemory>
     ensures { OnOk result (to.new ≡ to.old ++ first_crossing file.now crossing) }
 {
     match crossing {
@@ -245,7 +259,12 @@ fn of_text(alloc: Global, file: &str, kind: ModuleKind, source: &[u8]) -> Result
 }
 
 /// What a file asks for, whose module is of this kind.
-fn of_file<F: Files>(alloc: Global, files: &mut F, file: &str, kind: ModuleKind) -> Result<Ended, Unknown>
+fn of_file<F: Files>(
+    alloc: Global,
+    files: &mut F,
+    file: &str,
+    kind: ModuleKind,
+) -> Result<Ended, Unknown>
     ensures meaning { (told : List TheFile) (input : List ℕ) → F.told files.old ≡ Some told → IfOk result (λ e. OfFile file.now input kind (bytes_of told file.now) (ending_of e)) }
     ensures reading { IfOk result (λ e. HasReading e.status) }
     ensures cause { HasCause (F.faults files.old) (F.faults files.new) (IsErrOf result Unknown.ReadFault) }

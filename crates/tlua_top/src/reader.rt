@@ -9,15 +9,13 @@ mod stage;
 mod step;
 mod token;
 
-use std::alloc::Global;
-
-use lua_tree::Stat;
-use tl_base::{List, NoMemory};
-
 use crate::reader::cut::cut;
 use crate::reader::stage::{Done, Reader, Stage};
 use crate::reader::step::{last, step};
 use crate::reader::token::Token;
+use lua_tree::Stat;
+use std::alloc::Global;
+use tl_base::{List, NoMemory};
 
 /// Why a text was not read.
 #[derive(Clone, Copy, Debug, PartialEq, Eq)]

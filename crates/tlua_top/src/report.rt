@@ -2,9 +2,8 @@ ghost use Rattle.std.specs.Prelude.{◌≡◌, ◌<◌, ◌++◌, flat_map, deci
 ghost use Rattle.std.specs.Fmt.{signed_decimal};
 ghost use Rattle.tlua_top.specs.Lines.{place_text, refusal_line, crossing_text, crossing_line, crossing_lines, escaped, hex_digit};
 
-use std::alloc::Global;
-
 use itoa::Buffer;
+use std::alloc::Global;
 use tl_base::{Bytes, Crossing, NoMemory, Pos, Refusal};
 
 /// Puts a number's decimal digits behind a text.

@@ -10,15 +10,12 @@ mod execute;
 mod state;
 mod value;
 
-use std::alloc::Global;
-
-use lua_tree::Chunk;
-use tl_base::{Bytes, NoMemory, Turns};
-
 use crate::run::execute::execute_all;
-use crate::run::state::{Machine, Stop};
-
 pub use crate::run::state::FirstError;
+use crate::run::state::{Machine, Stop};
+use lua_tree::Chunk;
+use std::alloc::Global;
+use tl_base::{Bytes, NoMemory, Turns};
 
 /// How many turns a run may take.
 const BUDGET: u64 = 10_000_000;
@@ -50,7 +47,13 @@ fn finished(machine: Machine, outcome: Outcome, turns: u64) -> Ran
     ensures turns { result.turns ≡ turns }
     ensures error { result.error ≡ machine.error }
 {
-    let Machine { file: _, kind: _, output, mark: _, error } = machine;
+    let Machine {
+        file: _,
+        kind: _,
+        output,
+        mark: _,
+        error,
+    } = machine;
     Ran {
         output,
         outcome,

@@ -2,12 +2,10 @@ ghost use Rattle.std.specs.Prelude.{◌≡◌, ℕ, ◌∷◌, ◌<◌, ◌≤�
 ghost use Rattle.std.specs.List.{prefix_len, take_while};
 ghost use Rattle.tlua_top.specs.Tokens.{is_letter, is_digit, goes_on, is_plain, word_of, symbol_of, value_from, ends_numeral, begins_with_quote, numeral_at, quoted_at, token_at, IsNext, Cuts, is_among, is_reserved};
 
-use std::alloc::Global;
-
-use tl_base::{Bytes, List, NoMemory, Pos};
-
 use crate::reader::ReadError;
 use crate::reader::token::{Symbol, Token, TokenKind, Word};
+use std::alloc::Global;
+use tl_base::{Bytes, List, NoMemory, Pos};
 
 fn is_letter(byte: u8) -> bool
     ensures { result ≡ is_letter byte }

@@ -1,6 +1,5 @@
-use tl_base::{Bytes, List, Pos};
-
 use lua_tree::{Expr, Operator, Stat, TypeName};
+use tl_base::{Bytes, List, Pos};
 
 /// The locals and the statements so far. The newest local's name stands last.
 #[derive(Drop)]

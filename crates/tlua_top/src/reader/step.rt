@@ -6,17 +6,16 @@ ghost use Rattle.tlua_top.specs.Grammar.{number_of, type_of, type_of_name, word_
 ghost use Rattle.tlua_top.specs.Machine.{added, multiplied, begin, begin_word, closed, comma, close, signed, had, wanted, opened, name_found, behind_name, type_found, equals, step, last, goes, wanting};
 ghost use Rattle.tlua_top.specs.Reader.{names_of, left_of, chain_of, goal_of, stage_of, config_of, Steps, Closes};
 
-use std::alloc::Global;
-
-use lua_tree::{Expr, Operator, Stat, TypeName};
-use tl_base::{Boxed, Bytes, List, NoMemory, Pos};
-
 use crate::reader::ReadError;
 use crate::reader::cut::is;
 use crate::reader::stage::{Chain, Done, Goal, LeftOperand, Reader, Stage};
 use crate::reader::token::{Symbol, Token, TokenKind, Word};
+use lua_tree::{Expr, Operator, Stat, TypeName};
+use std::alloc::Global;
+use tl_base::{Boxed, Bytes, List, NoMemory, Pos};
 
 const MOST_LOCALS: usize = 200;
+
 const MOST_ATOMS: u32 = 200;
 
 /// The number of the newest local of a name.
@@ -232,7 +231,15 @@ fn close(done: Done, goal: Goal, value: Expr) -> Result<Reader, ReadError>
 }
 
 /// A chain goes on: the sum so far waits for a further product.
-fn after_sum(alloc: Global, done: Done, goal: Goal, sum: Option<LeftOperand>, product: Expr, operator: Operator, atoms: u32) -> Result<Reader, ReadError>
+fn after_sum(
+    alloc: Global,
+    done: Done,
+    goal: Goal,
+    sum: Option<LeftOperand>,
+    product: Expr,
+    operator: Operator,
+    atoms: u32,
+) -> Result<Reader, ReadError>
     requires { length done.names ≤ 200 }
     ensures { Steps (goes (names_of done.names) (lines_of done.lines) (wanting (goal_of goal)
         (record { sum = Some (added (option_map left_of sum) (exp_of product), operator); product = None; atoms = atoms }))) result }
@@ -248,7 +255,15 @@ fn after_sum(alloc: Global, done: Done, goal: Goal, sum: Option<LeftOperand>, pr
 }
 
 /// A sign behind an expression.
-fn signed(alloc: Global, done: Done, goal: Goal, sum: Option<LeftOperand>, product: Expr, atoms: u32, sign: Symbol) -> Result<Reader, ReadError>
+fn signed(
+    alloc: Global,
+    done: Done,
+    goal: Goal,
+    sum: Option<LeftOperand>,
+    product: Expr,
+    atoms: u32,
+    sign: Symbol,
+) -> Result<Reader, ReadError>
     requires { length done.names ≤ 200 }
     ensures { Steps (signed (names_of done.names) (lines_of done.lines) (goal_of goal) (option_map left_of sum) (exp_of product) atoms sign) result }
 {
@@ -276,7 +291,16 @@ fn signed(alloc: Global, done: Done, goal: Goal, sum: Option<LeftOperand>, produ
 }
 
 /// What follows an expression: a sign, or the next statement.
-fn had(alloc: Global, done: Done, goal: Goal, sum: Option<LeftOperand>, product: Expr, atoms: u32, pos: Pos, kind: TokenKind) -> Result<Reader, ReadError>
+fn had(
+    alloc: Global,
+    done: Done,
+    goal: Goal,
+    sum: Option<LeftOperand>,
+    product: Expr,
+    atoms: u32,
+    pos: Pos,
+    kind: TokenKind,
+) -> Result<Reader, ReadError>
     requires { length done.names ≤ 200 }
     ensures { Steps (had (names_of done.names) (lines_of done.lines) (goal_of goal) (option_map left_of sum) (exp_of product) atoms pos kind) result }
 {
@@ -292,7 +316,13 @@ fn had(alloc: Global, done: Done, goal: Goal, sum: Option<LeftOperand>, product:
 }
 
 /// An atom of a chain.
-fn wanted(alloc: Global, done: Done, goal: Goal, chain: Chain, atom: Option<Expr>) -> Result<Reader, ReadError>
+fn wanted(
+    alloc: Global,
+    done: Done,
+    goal: Goal,
+    chain: Chain,
+    atom: Option<Expr>,
+) -> Result<Reader, ReadError>
     requires { length done.names ≤ 200 }
     ensures { Steps (wanted (names_of done.names) (lines_of done.lines) (goal_of goal) (chain_of chain) (option_map exp_of atom)) result }
 {
@@ -339,7 +369,10 @@ fn behind_name(done: Done, pos: Pos, name: Bytes, kind: TokenKind) -> Result<Rea
     ensures { Steps (behind_name (names_of done.names) (lines_of done.lines) pos name kind) result }
 {
     match kind {
-        TokenKind::Symbol(Symbol::Equals) => standing(done, Stage::Wanting(Goal::Initial(pos, name, None), fresh())),
+        TokenKind::Symbol(Symbol::Equals) => standing(
+            done,
+            Stage::Wanting(Goal::Initial(pos, name, None), fresh()),
+        ),
         TokenKind::Symbol(Symbol::Colon) => standing(done, Stage::Typing(pos, name)),
         _ => Err(ReadError::NotOfThisForm),
     }
@@ -381,13 +414,19 @@ pub fn step(alloc: Global, reader: Reader, token: Token) -> Result<Reader, ReadE
         Stage::Naming(start) => name_found(done, start, kind),
         Stage::Named(start, name) => behind_name(done, start, name, kind),
         Stage::Typing(start, name) => type_found(done, start, name, kind),
-        Stage::Typed(start, name, annotation) => equals(done, Goal::Initial(start, name, Some(annotation)), kind),
+        Stage::Typed(start, name, annotation) => equals(
+            done,
+            Goal::Initial(start, name, Some(annotation)),
+            kind,
+        ),
         Stage::Storing(start, number) => equals(done, Goal::Stored(start, number), kind),
         Stage::Wanting(goal, chain) => {
             let atom = atom(done.names.as_slice(), pos, kind);
             wanted(alloc, done, goal, chain, atom)
         }
-        Stage::Having(goal, sum, product, atoms) => had(alloc, done, goal, sum, product, atoms, pos, kind),
+        Stage::Having(goal, sum, product, atoms) => had(
+            alloc, done, goal, sum, product, atoms, pos, kind,
+        ),
     }
 }
 

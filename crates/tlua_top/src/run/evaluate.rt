@@ -5,14 +5,12 @@ ghost use Rattle.lua_meaning.specs.Values as v;
 ghost use Rattle.lua_meaning.specs.Meaning.{apply, operate, eval, eval_all, printed};
 ghost use Rattle.tlua_top.specs.Runs.{value_of, values_of, further, state_of, Gives};
 
-use std::alloc::Global;
-
-use lua_tree::{Expr, Operator};
-use tl_base::{Bytes, List, NoMemory, Pos};
-use tl_types::Text;
-
 use crate::run::state::{Machine, Stop};
 use crate::run::value::Value;
+use lua_tree::{Expr, Operator};
+use std::alloc::Global;
+use tl_base::{Bytes, List, NoMemory, Pos};
+use tl_types::Text;
 
 fn apply(operator: Operator, left: i64, right: i64) -> i64
     ensures { result ≡ int_wrap w64 (apply operator left right) }
@@ -24,7 +22,14 @@ fn apply(operator: Operator, left: i64, right: i64) -> i64
     }
 }
 
-fn operate(alloc: Global, operator: Operator, pos: Pos, left: &Value, right: &Value, machine: &mut Machine) -> Result<Value, Stop>
+fn operate(
+    alloc: Global,
+    operator: Operator,
+    pos: Pos,
+    left: &Value,
+    right: &Value,
+    machine: &mut Machine,
+) -> Result<Value, Stop>
     ensures { (input : Seq ℕ) (turns : ℕ) → Gives value_of (operate operator pos (value_of left.now) (value_of right.now) (state_of input turns machine.old)) (state_of input turns machine.new) result }
 {
     let Some(left_number) = left.integer() else {
@@ -47,7 +52,12 @@ fn local(frame: &[Value], number: u32) -> Result<Value, NoMemory>
 }
 
 /// The value of an expression.
-pub fn eval(alloc: Global, expr: &Expr, frame: &[Value], machine: &mut Machine) -> Result<Value, Stop>
+pub fn eval(
+    alloc: Global,
+    expr: &Expr,
+    frame: &[Value],
+    machine: &mut Machine,
+) -> Result<Value, Stop>
     ensures { (input : Seq ℕ) (turns : ℕ) → Gives value_of (eval (exp_of expr.now) (map value_of frame.now) (state_of input turns machine.old)) (state_of input turns machine.new) result }
 {
     match expr {
@@ -79,7 +89,12 @@ pub fn eval(alloc: Global, expr: &Expr, frame: &[Value], machine: &mut Machine) 
 }
 
 /// The values of expressions, from left to right.
-pub fn eval_all(alloc: Global, exprs: &[Expr], frame: &[Value], machine: &mut Machine) -> Result<List<Value>, Stop>
+pub fn eval_all(
+    alloc: Global,
+    exprs: &[Expr],
+    frame: &[Value],
+    machine: &mut Machine,
+) -> Result<List<Value>, Stop>
     ensures { (input : Seq ℕ) (turns : ℕ) → Gives values_of (eval_all (map exp_of exprs.now) (map value_of frame.now) (state_of input turns machine.old)) (state_of input turns machine.new) result }
 {
     let mut values = List::new(alloc);

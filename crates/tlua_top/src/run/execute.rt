@@ -4,14 +4,12 @@ ghost use Rattle.lua_meaning.specs.State.{write};
 ghost use Rattle.lua_meaning.specs.Meaning.{printed, exec, exec_all};
 ghost use Rattle.tlua_top.specs.Runs.{value_of, state_of, Prints, Declares, Assigns, Execs, Runs};
 
-use std::alloc::Global;
-
-use lua_tree::{Expr, Stat};
-use tl_base::NoMemory;
-
 use crate::run::evaluate::{eval, eval_all, push_printed};
 use crate::run::state::{Machine, Stop};
 use crate::run::value::Value;
+use lua_tree::{Expr, Stat};
+use std::alloc::Global;
+use tl_base::NoMemory;
 
 /// Writes the line of these values.
 fn write_line(machine: &mut Machine, values: &[Value]) -> Result<(), NoMemory>
@@ -51,7 +49,12 @@ fn store(frame: &mut Vec<Value>, number: u32, value: Value)
 }
 
 /// `local x = e`
-fn declare(alloc: Global, expr: &Expr, frame: &mut Vec<Value>, machine: &mut Machine) -> Result<(), Stop>
+fn declare(
+    alloc: Global,
+    expr: &Expr,
+    frame: &mut Vec<Value>,
+    machine: &mut Machine,
+) -> Result<(), Stop>
     ensures { (input : List ℕ) (turns : ℕ) → Declares (exp_of expr.now) (map value_of frame.old.items) (map value_of frame.new.items) (state_of input turns machine.old) (state_of input turns machine.new) result }
 {
     match eval(alloc, expr, frame.as_slice(), machine) {
@@ -64,7 +67,13 @@ fn declare(alloc: Global, expr: &Expr, frame: &mut Vec<Value>, machine: &mut Mac
 }
 
 /// `x = e`
-fn assign(alloc: Global, number: u32, expr: &Expr, frame: &mut Vec<Value>, machine: &mut Machine) -> Result<(), Stop>
+fn assign(
+    alloc: Global,
+    number: u32,
+    expr: &Expr,
+    frame: &mut Vec<Value>,
+    machine: &mut Machine,
+) -> Result<(), Stop>
     ensures { (input : List ℕ) (turns : ℕ) → Assigns number (exp_of expr.now) (map value_of frame.old.items) (map value_of frame.new.items) (state_of input turns machine.old) (state_of input turns machine.new) result }
 {
     match eval(alloc, expr, frame.as_slice(), machine) {
@@ -77,7 +86,12 @@ fn assign(alloc: Global, number: u32, expr: &Expr, frame: &mut Vec<Value>, machi
 }
 
 /// Executes a statement.
-pub fn execute(alloc: Global, line: &Stat, frame: &mut Vec<Value>, machine: &mut Machine) -> Result<(), Stop>
+pub fn execute(
+    alloc: Global,
+    line: &Stat,
+    frame: &mut Vec<Value>,
+    machine: &mut Machine,
+) -> Result<(), Stop>
     ensures { (input : List ℕ) (turns : ℕ) → Execs (exec (line_of line.now) (map value_of frame.old.items) (state_of input turns machine.old)) (map value_of frame.new.items) (state_of input turns machine.new) result }
 {
     match line {

@@ -1,10 +1,8 @@
 ghost use Rattle.std.specs.Prelude.{◌≡◌, ◌∷◌, [], ◌++◌, ℕ, List, IfOk, codes, slice_index_or};
 
-use std::alloc::Global;
-
-use tl_base::{Bytes, CrossKind, Crossing, ModuleKind, NoMemory, Pos};
-
 use crate::report::push_place;
+use std::alloc::Global;
+use tl_base::{Bytes, CrossKind, Crossing, ModuleKind, NoMemory, Pos};
 
 /// Why a part of a run gave no value.
 #[derive(Debug, Drop)]
@@ -60,7 +58,11 @@ impl Machine {
     fn word_at(&self, pos: Pos) -> &[u8]
         ensures { result.now ≡ slice_index_or (self.now.file ∷ []) pos.«module» [] }
     {
-        if pos.module == 0 { self.file.as_slice() } else { b"" }
+        if pos.module == 0 {
+            self.file.as_slice()
+        } else {
+            b""
+        }
     }
 
     /// Records an operand-kind error, where the place is a typed module's and no earlier one was recorded.

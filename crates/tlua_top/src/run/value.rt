@@ -2,10 +2,9 @@ ghost use Rattle.std.specs.Prelude.{◌≡◌, ◌++◌, IfOk, OnOk, MatchOption
 ghost use Rattle.lua_meaning.specs.Values as v;
 ghost use Rattle.lua_meaning.specs.Values.{kind_of, text_of};
 
+use crate::report::push_signed;
 use tl_base::{Bytes, NoMemory};
 use tl_types::Text;
-
-use crate::report::push_signed;
 
 /// A value. All that hold a string share its bytes.
 #[derive(Debug, Drop)]
