@@ -1,9 +1,11 @@
+pub mod Closing
 pub mod CrossingList
 pub mod Cuts
 pub mod Endings
 pub mod Loops
 pub mod Modules
 pub mod Reading
+pub mod RunEnds
 pub mod Runs
 pub mod Sizes
 pub mod Spelling

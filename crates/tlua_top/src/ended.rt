@@ -1,6 +1,7 @@
 //! What words ask for, before anything of it is written.
 
 ghost use Rattle.std.specs.Prelude.{◌≡◌, ◌≤◌, ◌++◌, ℕ, List, length, map, string_bytes, IfOk, OnOk, IsErrOf, MatchOption};
+ghost use Rattle.std.specs.List.{list_all};
 ghost use Rattle.std.specs.Option.{option_map};
 ghost use Rattle.tl_edge.specs.Edge.{HasCause};
 ghost use Rattle.tl_edge.specs.Files.{bytes_of};
@@ -112,16 +113,35 @@ fn is_untyped_argument(expr: &Expr) -> bool
     }
 }
 
+fn are_untyped_arguments(exprs: &[Expr]) -> bool
+    ensures { result ≡ list_all is_untyped_argument (map exp_of exprs.now) }
+{
+    for expr in exprs {
+        if !is_untyped_argument(expr) {
+            return false;
+        }
+    }
+    true
+}
+
 fn is_untyped_line(line: &Stat) -> bool
     ensures { result ≡ is_untyped_line (line_of line.now) }
 {
     match line {
-        Stat::Print(_, exprs) => exprs
-            .as_slice()
-            .iter()
-            .all(|expr| is_untyped_argument(expr)),
+        Stat::Print(_, exprs) => are_untyped_arguments(exprs.as_slice()),
         _ => false,
     }
+}
+
+fn are_untyped_lines(lines: &[Stat]) -> bool
+    ensures { result ≡ list_all is_untyped_line (lines_of lines.now) }
+{
+    for line in lines {
+        if !is_untyped_line(line) {
+            return false;
+        }
+    }
+    true
 }
 
 /// Whether a module of this kind may have these statements.
@@ -130,7 +150,7 @@ fn admits(kind: ModuleKind, lines: &[Stat]) -> bool
 {
     match kind {
         ModuleKind::Typed => true,
-        ModuleKind::Untyped => lines.iter().all(|line| is_untyped_line(line)),
+        ModuleKind::Untyped => are_untyped_lines(lines),
     }
 }
 
