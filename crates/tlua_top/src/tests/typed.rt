@@ -297,6 +297,11 @@ fn kind_errors_name_the_first_crossing(rt: HostRuntime) -> Result<(), Fail> {
             "crossing main.tl:2:7 operand\ncrossing main.tl:4:7 operand\ncrossing main.tl:5:7 operand\nkind main.tl:4:7 after main.tl:2:7 operand\nerror 1 main.tl:4:7: arithmetic on a string\n",
         ),
         (
+            "local a: any = \"s\"\nlocal n: integer = a + 1",
+            "",
+            "crossing main.tl:2:20 place\ncrossing main.tl:2:20 operand\nkind main.tl:2:20 after main.tl:2:20 operand\nerror 1 main.tl:2:20: arithmetic on a string\n",
+        ),
+        (
             "local a: any = \"s\"\nlocal n: integer = a\nprint(n)\nprint(1 + n)",
             "s\n",
             "crossing main.tl:2:20 place\nkind main.tl:4:7 after main.tl:2:20 place\nerror 1 main.tl:4:7: arithmetic on a string\n",
