@@ -14,3 +14,6 @@ mod words;
 
 pub use status::Status;
 pub use top::tlua;
+
+#[cfg(test)]
+mod tests;

@@ -1,0 +1,6 @@
+mod calls;
+mod faults;
+mod pieces;
+mod typed;
+mod untyped;
+mod words;
