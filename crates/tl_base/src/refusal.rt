@@ -11,6 +11,14 @@ pub enum RefusalCode {
     X1,
     /// a file that is missing
     G6,
+    /// a byte that begins no token
+    L1,
+    /// a string or a comment that is not ended
+    L2,
+    /// a bad escape in a string
+    L3,
+    /// a numeral that is no integer numeral
+    L4,
     /// a file longer than 1048576 bytes
     L5,
     /// a value that doesn't flow to its place
@@ -29,6 +37,10 @@ impl RefusalCode {
         match self {
             RefusalCode::X1 => "X1",
             RefusalCode::G6 => "G6",
+            RefusalCode::L1 => "L1",
+            RefusalCode::L2 => "L2",
+            RefusalCode::L3 => "L3",
+            RefusalCode::L4 => "L4",
             RefusalCode::L5 => "L5",
             RefusalCode::F1 => "F1",
             RefusalCode::F2 => "F2",

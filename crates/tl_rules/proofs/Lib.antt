@@ -1,1 +1,2 @@
 pub mod Crossings
+mod Vectors

@@ -5,5 +5,4 @@ ghost use Rattle.tl_rules.specs.Crossings.{IsCrossingList};
 /// Marks have one crossing list at most. Nothing is computed: the contract is the law.
 pub fn crossing_lists_are_unique()
     ensures { (marks list other : List Crossing) → IsCrossingList marks list → IsCrossingList marks other → list ≡ other }
-{
-}
+{}

@@ -3,6 +3,8 @@
 
 mod laws;
 mod local;
+#[cfg(test)]
+mod tests;
 
 pub use laws::crossing_lists_are_unique;
 pub use local::{Local, declared_for, named_type};

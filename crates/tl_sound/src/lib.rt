@@ -3,5 +3,7 @@
 #![tactic(auto)]
 
 mod laws;
+#[cfg(test)]
+mod tests;
 
 pub use laws::{errors_follow_marks, errors_name_crossings, marks_are_listed};

@@ -2,10 +2,12 @@
 #![tactic(auto)]
 
 mod order;
+#[cfg(test)]
+mod tests;
 mod text;
 mod types;
 
 pub use order::Flow;
 pub use text::Text;
-pub use types::Ty;
 use tl_base::{Bytes, NoMemory};
+pub use types::Ty;

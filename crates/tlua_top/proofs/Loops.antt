@@ -1,5 +1,5 @@
 -- The loops over arguments and statements: what is done, and what the rules say of the rest.
-use Rattle.std.proofs.Common.{◌≡◌, refl, sym, ◌∙◌, ap, subst, ℕ, length, arith, List, [], ◌∷◌, ◌++◌, map, append_assoc, append-nil, Ok, Err, Result}
+use Rattle.std.proofs.Common.{◌≡◌, refl, sym, ◌∙◌, ap, subst, ℕ, length, arith, List, [], ◌∷◌, ◌++◌, map, append_assoc, append-nil, Err}
 use Rattle.std.proofs.lemmas.List.{map-append}
 use Rattle.tl_base.specs.declared.refusal.Failure.{Failure}
 use Rattle.tl_base.specs.declared.refusal.Failure.TheVariants as failure

@@ -1,23 +1,25 @@
 -- The steps of the run, one for each way in which an expression, a list of them or a statement ends.
-use Rattle.std.proofs.Common.{◌≡◌, ℕ, List, [], ◌∷◌, ◌++◌, Option, Some, None, Result, Ok, Err, refl, sym, ◌∙◌, ap, subst, append-nil, append_assoc, ◌<◌, length, map, drop, get_or, suc, drop-cons}
-use Rattle.std.specs.Prelude.{codes, ℤ, FitsSigned, OnOk}
+use Rattle.std.proofs.Common.{◌≡◌, ℕ, List, [], ◌∷◌, ◌++◌, Option, Some, None, Result, Ok, Err, refl, sym, ◌∙◌, ap, subst, append-nil, append_assoc, ◌<◌, length, map, drop, get_or, suc, drop-cons, ◌+◌, ◌≤◌, add-one}
+use Rattle.std.specs.Prelude.{codes, ℤ, FitsSigned, OnOk, slice_set}
 use Rattle.std.specs.Int.{int_wrap, w64}
 use Rattle.std.proofs.Common.{to_z, of_z}
 use Rattle.std.proofs.lemmas.Int.{to_z-of_z}
+use Rattle.std.proofs.Math.ListN.{drop_of_length-le}
 use Rattle.tl_base.specs.declared.place.Pos.{Pos}
 use Rattle.tl_base.specs.declared.crossing.CrossKind.{CrossKind}
 use Rattle.lua_tree.specs.declared.tree.Operator.{Operator}
 use Rattle.lua_tree.specs.declared.tree.Expr.{Expr}
-use Rattle.lua_tree.specs.Tree.{Exp, binary, mark, exp_of}
+use Rattle.lua_tree.specs.declared.tree.Stat.{Stat}
+use Rattle.lua_tree.specs.Tree.{Exp, Line, binary, mark, exp_of, line_of, lines_of}
 use Rattle.lua_tree.specs.Shape.{place_of}
 use Rattle.lua_meaning.specs.Values as v
 use Rattle.lua_meaning.specs.Values.{kind_of, text_of}
-use Rattle.lua_meaning.specs.State.{State, Ran, gives, raises, then_run, pass, raise_kind}
-use Rattle.lua_meaning.specs.Meaning.{Frame, arithmetic_on, apply, operate, eval, eval_all, printed}
+use Rattle.lua_meaning.specs.State.{State, Ran, gives, raises, then_run, pass, raise_kind, write}
+use Rattle.lua_meaning.specs.Meaning.{Frame, arithmetic_on, apply, operate, eval, eval_all, printed, exec, exec_all}
 use Rattle.tlua_top.specs.declared.run.value.Value.{Value}
 use Rattle.tlua_top.specs.declared.run.state.Stop.{Stop}
 use Rattle.tlua_top.specs.declared.run.state.Stop.TheVariants as stop
-use Rattle.tlua_top.specs.Runs.{value_of, values_of, after_values, further, Gives, Raises, NotInteger}
+use Rattle.tlua_top.specs.Runs.{value_of, values_of, after_values, further, Gives, Raises, NotInteger, Prints, Declares, Assigns, Execs, Runs}
 
 left_fails : (o : Operator) (p : Pos) (u w : v.Value) (s : State) → NotInteger u → operate o p u w s ≡ raise_kind p (arithmetic_on u) s
 left_fails o p v.nil w s h = refl
@@ -103,3 +105,64 @@ line_pushed (Ok x) new old behind all us u vs is first rest h =
     h ∙ ap (λ z. z ++ 10 ∷ []) (rest ∙ ap (λ z. z ++ further vs) first ∙ append_assoc old (text_of u) (further vs)) ∙ append_assoc old (text_of u ++ further vs) (10 ∷ [])
     ∙ ap (λ z. old ++ z) (sym (printed-further u vs)) ∙ ap (λ z. old ++ printed z) (sym is)
 line_pushed (Err x) new old behind all us u vs is first rest h = tt
+
+module _ (es : List Exp) (f : Frame) (s0 s1 s2 : State) where
+  pub print_stops : (x : Stop) → Gives values_of (eval_all es f s0) s1 (Err x) → Prints es f s0 s1 (Err x)
+  print_stops (stop.Raised t) h = λ p. rw h refl
+  print_stops stop.NoMemory h = λ p. tt
+
+  pub print_ends : (vs : List v.Value) (done : Unit {0}) → eval_all es f s0 ≡ gives vs s1 → s2 ≡ write (printed vs) s1 → Prints es f s0 s2 (Ok done)
+  print_ends vs done h g = λ p. rw (h, g) refl
+
+module _ (e : Exp) (f f1 : Frame) (s0 s1 : State) where
+  pub declare_stops : (x : Stop) → Gives value_of (eval e f s0) s1 (Err x) → Declares e f f1 s0 s1 (Err x)
+  declare_stops (stop.Raised t) h = λ p a. rw h refl
+  declare_stops stop.NoMemory h = λ p a. tt
+
+  pub declare_ends : (y : Value) (done : Unit {0}) → eval e f s0 ≡ gives (value_of y) s1 → f1 ≡ f ++ value_of y ∷ [] → Declares e f f1 s0 s1 (Ok done)
+  declare_ends y done h g = λ p a. rw (h, g) refl
+
+  pub assign_stops : (n : ℕ) (x : Stop) → Gives value_of (eval e f s0) s1 (Err x) → Assigns n e f f1 s0 s1 (Err x)
+  assign_stops n (stop.Raised t) h = λ p. rw h refl
+  assign_stops n stop.NoMemory h = λ p. tt
+
+  pub assign_ends : (n : ℕ) (y : Value) (done : Unit {0}) → eval e f s0 ≡ gives (value_of y) s1 → f1 ≡ slice_set f n (value_of y) → Assigns n e f f1 s0 s1 (Ok done)
+  assign_ends n y done h g = λ p. rw (h, g) refl
+
+-- a statement of the code's tree
+pub statement_is : (line : Stat) (l : Line) (f f1 : Frame) (s0 s1 : State) (r : Result (Unit {0}) Stop) → line_of line ≡ l → Execs (exec l f s0) f1 s1 r → Execs (exec (line_of line) f s0) f1 s1 r
+statement_is line l f f1 s0 s1 r is h = subst (λ x. Execs (exec x f s0) f1 s1 r) (sym is) h
+
+-- the next statement of a list raised an error
+module _ (ls : List Stat) (i : ℕ) (l : Stat) (f : Frame) (f1 : Frame) (s0 s s1 : State) where
+  pub lines_stop : (x : Stop) → i < length ls → l ≡ get_or ls i l → exec_all (lines_of ls) [] s0 ≡ exec_all (lines_of (drop i ls)) f s
+      → Execs (exec (line_of l) f s) f1 s1 (Err x) → Runs (exec_all (lines_of ls) [] s0) s1 (Err x)
+  lines_stop x inside is so_far h = (f1, stops x h)
+    where
+      next : drop i ls ≡ l ∷ drop (suc i) ls
+      next = drop-cons ls i l inside ∙ ap (λ z. z ∷ drop (suc i) ls) (sym is)
+
+      whole : exec_all (lines_of ls) [] s0 ≡ exec_all (line_of l ∷ lines_of (drop (suc i) ls)) f s
+      whole = so_far ∙ ap (λ z. exec_all (lines_of z) f s) next
+
+      stops : (x : Stop) → Execs (exec (line_of l) f s) f1 s1 (Err x) → Execs (exec_all (lines_of ls) [] s0) f1 s1 (Err x)
+      stops (stop.Raised t) h = rw whole (rw h refl)
+      stops stop.NoMemory h = tt
+
+  pub lines_go : (done : Unit {0}) → i < length ls → l ≡ get_or ls i l → exec_all (lines_of ls) [] s0 ≡ exec_all (lines_of (drop i ls)) f s
+      → Execs (exec (line_of l) f s) f1 s1 (Ok done) → exec_all (lines_of ls) [] s0 ≡ exec_all (lines_of (drop (i + 1) ls)) f1 s1
+  lines_go done inside is so_far h =
+      let next : drop i ls ≡ l ∷ drop (suc i) ls = drop-cons ls i l inside ∙ ap (λ z. z ∷ drop (suc i) ls) (sym is) in
+      let one : exec_all (line_of l ∷ lines_of (drop (suc i) ls)) f s ≡ exec_all (lines_of (drop (suc i) ls)) f1 s1 = rw h refl in
+      so_far ∙ ap (λ z. exec_all (lines_of z) f s) next ∙ one ∙ ap (λ n. exec_all (lines_of (drop n ls)) f1 s1) (sym (add-one i))
+
+-- the arguments and the locals as the code lends them
+pub print_is : (es all : List Expr) (f g : List Value) (s0 s1 : State) (r : Result (Unit {0}) Stop) → es ≡ all → f ≡ g → Prints (map exp_of es) (map value_of f) s0 s1 r
+    → Prints (map exp_of all) (map value_of g) s0 s1 r
+print_is es all f g s0 s1 r is same h =
+    subst (λ z. Prints (map exp_of z) (map value_of g) s0 s1 r) is (subst (λ z. Prints (map exp_of es) (map value_of z) s0 s1 r) same h)
+
+-- no statement is left
+pub lines_end : (ls : List Stat) (i : ℕ) (f : Frame) (s0 s : State) → length ls ≤ i → exec_all (lines_of ls) [] s0 ≡ exec_all (lines_of (drop i ls)) f s
+    → (x : Frame) × (exec_all (lines_of ls) [] s0 ≡ gives x s)
+lines_end ls i f s0 s past so_far = (f, so_far ∙ ap (λ z. exec_all (lines_of z) f s) (drop_of_length-le ls past))

@@ -4,7 +4,7 @@ use Rattle.tl_base.specs.declared.refusal.Failure.{Failure}
 use Rattle.tl_base.specs.declared.refusal.Failure.TheVariants as failure
 use Rattle.lua_tree.specs.declared.tree.Expr.{Expr}
 use Rattle.lua_tree.specs.declared.tree.Stat.{Stat}
-use Rattle.lua_tree.specs.Tree.{Exp, Line, exp_of, line_of, lines_of}
+use Rattle.lua_tree.specs.Tree.{exp_of, line_of, lines_of}
 use Rattle.tl_rules.specs.Checked.{Checked, fine, fault}
 use Rattle.tl_rules.specs.Locals.{Env}
 use Rattle.tl_rules.specs.Rules.{TypedExp, TypedExps, TypedLine, TypedLines, Flowed}

@@ -1,6 +1,8 @@
 mod expressions;
 mod marks;
 mod statements;
+#[cfg(test)]
+mod tests;
 
 ghost use Rattle.std.specs.Prelude.{◌≡◌, IfOk};
 ghost use Rattle.lua_tree.specs.Tree.{lines_of};

@@ -16,7 +16,9 @@ use lua_tree::Chunk;
 use tl_base::{Bytes, NoMemory, Turns};
 
 use crate::run::execute::execute_all;
-use crate::run::state::{FirstError, Machine, Stop};
+use crate::run::state::{Machine, Stop};
+
+pub use crate::run::state::FirstError;
 
 /// How many turns a run may take.
 const BUDGET: u64 = 10_000_000;
@@ -43,6 +45,10 @@ pub struct Ran {
 
 /// What the machine came to, and how.
 fn finished(machine: Machine, outcome: Outcome, turns: u64) -> Ran
+    ensures output { result.output ≡ machine.output }
+    ensures outcome { result.outcome ≡ outcome }
+    ensures turns { result.turns ≡ turns }
+    ensures error { result.error ≡ machine.error }
 {
     let Machine { file: _, kind: _, output, mark: _, error } = machine;
     Ran {

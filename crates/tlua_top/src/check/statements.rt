@@ -57,7 +57,13 @@ fn arguments(alloc: Global, env: &[Local], es: List<Expr>) -> Result<List<Expr>,
 }
 
 // Declares the next local with this initialiser.
-fn declare(alloc: Global, env: &mut Vec<Local>, annotation: Option<TypeName>, p: Pos, v: Typed) -> Result<Stat, Failure>
+fn declare(
+    alloc: Global,
+    env: &mut Vec<Local>,
+    annotation: Option<TypeName>,
+    p: Pos,
+    v: Typed,
+) -> Result<Stat, Failure>
     ensures { Answers (line_view env.new.items) (declaration below consistent annotation p (typed_view env.old.items v)) result }
 {
     match annotation {

@@ -1,5 +1,5 @@
-use Rattle.std.proofs.Common.{rules, ◌≡◌, ◌∙◌, ◌++◌, ◌∷◌, List, [], map}
-use Rattle.tlua_top.proofs.Loops.{none_left, exps_start, exps_step, exps_first, exps_second, exps_done}
+use Rattle.std.proofs.Common.{rules, ◌∙◌}
+use Rattle.tlua_top.proofs.Loops.{none_left, exps_start, exps_step, exps_done}
 use Rattle.tlua_top.proofs.check.statements.arguments.Goals as goal
 
 pub loop-e-init : goal.loop-e-init

@@ -1,5 +1,5 @@
-use Rattle.std.proofs.Common.{rules, ◌≡◌, ◌∙◌, ◌++◌, ◌∷◌, List, [], map}
-use Rattle.tlua_top.proofs.Loops.{none_left, lines_start, lines_step, lines_first, lines_done}
+use Rattle.std.proofs.Common.{rules, ◌∙◌}
+use Rattle.tlua_top.proofs.Loops.{none_left, lines_start, lines_step, lines_done}
 use Rattle.tlua_top.proofs.check.statements.statements.Goals as goal
 
 pub loop-s-init : goal.loop-s-init

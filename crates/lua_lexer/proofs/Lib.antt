@@ -1,0 +1,14 @@
+pub mod Spelled
+pub mod Once
+pub mod Laws
+pub mod Longest
+pub mod Maps
+pub mod Fences
+pub mod Parts
+pub mod Shorter
+pub mod Cuts
+pub mod Tails
+pub mod Spots
+pub mod Founds
+pub mod Order
+pub mod Values

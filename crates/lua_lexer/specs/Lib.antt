@@ -1,0 +1,12 @@
+pub mod Letters
+pub mod Lines
+pub mod Numerals
+pub mod Strings
+pub mod Brackets
+pub mod Spellings
+pub mod Pieces
+pub mod Tokens
+pub mod Reading
+pub mod Escaped
+pub mod Decoding
+pub mod Finding

@@ -1,0 +1,7 @@
+pub mod Integers
+pub mod Numerals
+pub mod Sameness
+pub mod Shown
+pub mod Tables
+pub mod Texts
+pub mod Values
