@@ -5,4 +5,4 @@ mod Untyped
 mod Runs
 mod Forms
 mod Join
-mod Sound
+pub mod Sound

@@ -1,6 +1,7 @@
 pub mod Closing
 pub mod CrossingList
 pub mod Cuts
+pub mod Delivering
 pub mod Endings
 pub mod Loops
 pub mod Modules
@@ -8,4 +9,5 @@ pub mod Reading
 pub mod RunEnds
 pub mod Runs
 pub mod Sizes
+pub mod Soundness
 pub mod Spelling

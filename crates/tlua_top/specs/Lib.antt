@@ -9,4 +9,5 @@ pub mod Output
 pub mod Reader
 pub mod Reading
 pub mod Runs
+pub mod Sound
 pub mod Tokens

@@ -68,3 +68,8 @@ abbrev pub Meets : (Ending → Type 0) → Status → (output0 output1 report0 r
 Meets defined result output0 output1 report0 report1 input0 input1 =
     (written told taken : List ℕ) × Appends output0 output1 written × Appends report0 report1 told × Consumes input0 input1 taken
     × Follows defined result written told (length taken)
+
+-- The same of a call that leaves the input alone.
+abbrev pub Delivers : (Ending → Type 0) → Status → (output0 output1 report0 report1 : Option (List ℕ)) → Type 0
+Delivers defined result output0 output1 report0 report1 =
+    (written told : List ℕ) × Appends output0 output1 written × Appends report0 report1 told × Follows defined result written told 0

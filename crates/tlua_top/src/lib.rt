@@ -4,6 +4,7 @@
 mod check;
 mod deliver;
 mod ended;
+mod laws;
 mod output;
 mod reader;
 mod report;
@@ -12,6 +13,7 @@ mod status;
 mod top;
 mod words;
 
+pub use laws::{one_ending, sure_statuses};
 pub use status::Status;
 pub use top::tlua;
 

@@ -1,0 +1,5 @@
+use Rattle.tlua_top.proofs.Soundness.{defined_once}
+use Rattle.tlua_top.proofs.laws.one_ending.Goals as goal
+
+pub returns : goal.returns
+returns c = defined_once
