@@ -1,5 +1,5 @@
 -- The facts of the ending, from those of its parts.
-use Rattle.std.proofs.Common.{◌≡◌, ◌⊎◌, inl, inr, ℕ, ◌≤◌, ◌<◌, Bool, true, false, List, [], ◌∷◌, length, map, Option, Some, None, Result, Ok, Err, refl, sym, ◌∙◌, ap, subst, arith}
+use Rattle.std.proofs.Common.{◌≡◌, ◌⊎◌, inl, inr, ℕ, ◌≤◌, true, false, List, length, Option, Some, None, Result, Ok, Err, sym, ◌∙◌, ap, subst, arith}
 use Rattle.std.specs.Prelude.{nat_lt, IfOk}
 use Rattle.std.proofs.lemmas.Bool.Decides.{nat_tests}
 use Rattle.tl_base.specs.declared.place.ModuleKind.{ModuleKind}
@@ -9,7 +9,7 @@ use Rattle.tl_edge.specs.declared.outside.FileBytes.{FileBytes}
 use Rattle.tl_edge.specs.Files.{bytes_of, IsAnswer}
 use Rattle.lua_tree.specs.Tree.{Line, lines_of}
 use Rattle.tl_types.specs.Order.{below, consistent}
-use Rattle.tl_rules.specs.Checked.{Checked, fine, fault}
+use Rattle.tl_rules.specs.Checked.{Checked, fault}
 use Rattle.tl_rules.specs.Rules.{check_module}
 use Rattle.tlua_top.specs.declared.check.Checked.{Checked as TheChecked}
 use Rattle.tlua_top.specs.Tokens.{Text}
@@ -45,8 +45,13 @@ module _ (file input source : Text) (kind : ModuleKind) where
 
   pub of_run : (c : TheChecked) (e : Ending) → IsChecked kind source c → e ≡ ran file c.crossings (run_of file input c.chunk.kind (lines_of c.chunk.body)) → OfText file input kind source e
   of_run c e k is =
-      inl (k.lines, k.spelled, k.admitted, subst (λ (q : Checked (List Line)). OfChecked file input kind q e) (sym k.takes)
-      (c.crossings, k.listed, is ∙ ap (λ m. ran file c.crossings (run_of file input m (lines_of c.chunk.body))) k.same_kind))
+      inl (
+        k.lines,
+        k.spelled,
+        k.admitted,
+        subst (λ (q : Checked (List Line)). OfChecked file input kind q e) (sym k.takes)
+            (c.crossings, k.listed, is ∙ ap (λ m. ran file c.crossings (run_of file input m (lines_of c.chunk.body))) k.same_kind),
+      )
 
   pub of_whole : (e : Ending) (o : Option Text) (out : Text) → o ≡ Some out → length out ≤ 1048576 → out ≡ source → OfText file input kind source e → OfFile file input kind o e
   of_whole e o out is short same t =

@@ -1,5 +1,5 @@
 -- A text has at most one list of tokens, and where it comes to a stop it has none.
-use Rattle.std.proofs.Common.{◌≡◌, ℕ, ◌+◌, ◌-◌, ◌*◌, ◌<◌, ◌≤◌, ◌^◌, Bool, true, false, List, [], ◌∷◌, ◌++◌, length, drop, get_or, drop-cons, suc, Option, Some, None, refl, sym, ◌∙◌, ap, subst, arith}
+use Rattle.std.proofs.Common.{◌≡◌, ℕ, ◌+◌, ◌-◌, ◌*◌, ◌<◌, ◌≤◌, ◌^◌, List, [], ◌∷◌, length, drop, get_or, drop-cons, suc, Some, None, refl, sym, ◌∙◌, ap, subst, arith}
 use Rattle.tlua_top.specs.Tokens.{Text, value_from, token_at, Cut, finish, space, line_end, token, NotCut, place, IsNext}
 use Rattle.tlua_top.specs.declared.reader.token.TokenKind.{TokenKind}
 use Rattle.tlua_top.specs.declared.reader.token.Token.{Token}

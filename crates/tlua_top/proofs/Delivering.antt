@@ -1,9 +1,9 @@
 -- Where the writing of an ending may return, over what the outputs tell.
-use Rattle.std.proofs.Common.{◌≡◌, inl, inr, List, [], ◌++◌, Option, ℕ, refl, sym, ◌∙◌, ap, subst}
-use Rattle.std.specs.Io.KnownBytes.{Appends, Consumes}
+use Rattle.std.proofs.Common.{◌≡◌, inl, inr, List, [], ◌++◌, Option, ℕ, refl, sym, subst}
+use Rattle.std.specs.Io.KnownBytes.{Appends}
 use Rattle.tlua_top.specs.declared.status.Status.{Status}
 use Rattle.tlua_top.specs.declared.ended.Ended.{Ended}
-use Rattle.tlua_top.specs.Outcome.{Ending, Stopped, IsFront, Follows, Delivers, Meets}
+use Rattle.tlua_top.specs.Outcome.{Ending, Stopped, IsFront, Delivers, Meets}
 use Rattle.tlua_top.specs.Ended.{ending_of}
 use Rattle.tlua_top.proofs.Endings.{appends_none, appends_more, consumes_none, front_all, stopped_early, stopped_ahead, stopped_in_run, ended_after, follows_more}
 
@@ -25,15 +25,23 @@ module _ (e : Ended) (result : Status) (o0 o1 r0 r1 r2 : Option (List ℕ)) wher
 
   pub stops_after : (ahead out piece : List ℕ) → ahead ≡ e.ahead → out ≡ e.output → piece ≡ e.after → Stopped result → Appends r0 r1 ahead → Appends o0 o1 out → Wrote r1 r2 piece
       → Delivers (IsEnding e) result o0 o1 r0 r2
-  stops_after ahead out piece begins wrote is stopped told written w =
-      (e.output, e.ahead ++ w.0, subst (λ x. Appends o0 o1 x) wrote written, appends_more r0 r1 r2 e.ahead w.0 (subst (λ a. Appends r0 r1 a) begins told) w.2,
-      ended_after (IsEnding e) result (ending_of e) refl w.0 0 (subst (λ p. IsFront w.0 p) is w.1) (inl stopped))
+  stops_after ahead out piece begins wrote is stopped told written w = (
+    e.output,
+    e.ahead ++ w.0,
+    subst (λ x. Appends o0 o1 x) wrote written,
+    appends_more r0 r1 r2 e.ahead w.0 (subst (λ a. Appends r0 r1 a) begins told) w.2,
+    ended_after (IsEnding e) result (ending_of e) refl w.0 0 (subst (λ p. IsFront w.0 p) is w.1) (inl stopped),
+  )
 
   pub all_written : (ahead out piece : List ℕ) → ahead ≡ e.ahead → out ≡ e.output → piece ≡ e.after → result ≡ e.status → Appends r0 r1 ahead → Appends o0 o1 out → Appends r1 r2 piece
       → Delivers (IsEnding e) result o0 o1 r0 r2
-  all_written ahead out piece begins wrote is status told written behind =
-      (e.output, e.ahead ++ e.after, subst (λ x. Appends o0 o1 x) wrote written, appends_more r0 r1 r2 e.ahead e.after (subst (λ a. Appends r0 r1 a) begins told) (subst (λ p. Appends r1 r2 p) is behind),
-      ended_after (IsEnding e) result (ending_of e) refl e.after 0 (front_all e.after) (inr (status, refl)))
+  all_written ahead out piece begins wrote is status told written behind = (
+    e.output,
+    e.ahead ++ e.after,
+    subst (λ x. Appends o0 o1 x) wrote written,
+    appends_more r0 r1 r2 e.ahead e.after (subst (λ a. Appends r0 r1 a) begins told) (subst (λ p. Appends r1 r2 p) is behind),
+    ended_after (IsEnding e) result (ending_of e) refl e.after 0 (front_all e.after) (inr (status, refl)),
+  )
 
 -- the input is left alone
 pub meets : (defined : Ending → Type 0) (e : Ended) (result : Status) (o0 o1 r0 r1 i : Option (List ℕ)) → defined (ending_of e) → Delivers (IsEnding e) result o0 o1 r0 r1

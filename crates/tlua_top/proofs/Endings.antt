@@ -3,7 +3,7 @@ use Rattle.std.proofs.Common.{◌≡◌, ◌⊎◌, inl, inr, ℕ, ◌-◌, List
 use Rattle.std.proofs.lemmas.List.{length-append, length-drop, take_all, take-append-drop}
 use Rattle.std.specs.Io.KnownBytes.{Appends, Consumes}
 use Rattle.tlua_top.specs.declared.status.Status.{Status}
-use Rattle.tlua_top.specs.Outcome.{Ending, Stopped, only_reports, IsFront, Follows}
+use Rattle.tlua_top.specs.Outcome.{Ending, Stopped, IsFront, Follows}
 
 -- nothing is written
 pub appends_none : (a : Option (List ℕ)) → Appends a a []
@@ -90,20 +90,6 @@ module _ (defined : Ending → Type 0) (status : Status) where
       output = front_all ending.output;
       report = front_behind ending.ahead told ending.after front;
       ahead_first = λ some. omega (arith, length-append ending.ahead told);
-      output_first = λ longer. refl;
-    },
-  )
-
-  -- where no program runs: in the one line of the report, or at its end
-  pub ended_report : (settled : Status) (line told : List ℕ) → defined (only_reports settled line) → IsFront told line → Stopped status ⊎ ((status ≡ settled) × (told ≡ line)) → Follows defined status [] told 0
-  ended_report settled line told is front ended = inr (
-    only_reports settled line,
-    is,
-    record {
-      settled = elim ended [ inl stopped ↦ inl stopped | inr ends ↦ inr (ends.0, refl, ends.1 ∙ sym (append-nil line)) ];
-      output = ([], refl);
-      report = front_longer told line [] front;
-      ahead_first = λ some. absurd (omega (arith, some));
       output_first = λ longer. refl;
     },
   )

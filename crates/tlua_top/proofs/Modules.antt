@@ -1,10 +1,10 @@
 -- What the reader's two halves say of a whole text.
-use Rattle.std.proofs.Common.{◌≡◌, List, [], ◌∷◌, Option, Some, None, Result, Ok, Err, refl, sym, ◌∙◌, ap, subst}
+use Rattle.std.proofs.Common.{◌≡◌, List, [], Some, None, Result, Ok, Err, ◌∙◌, ap}
 use Rattle.lua_tree.specs.declared.tree.Stat.{Stat}
 use Rattle.lua_tree.specs.Tree.{Line, lines_of}
 use Rattle.tlua_top.specs.declared.reader.ReadError.{ReadError}
 use Rattle.tlua_top.specs.declared.reader.ReadError.TheVariants.{NotOfThisForm, NoMemory}
-use Rattle.tlua_top.specs.Tokens.{Text, Cut, NotCut, Cuts}
+use Rattle.tlua_top.specs.Tokens.{Text, Cut, Cuts}
 use Rattle.tlua_top.specs.Grammar.{Names, Tokens, IsModule}
 use Rattle.tlua_top.specs.Machine.{run}
 use Rattle.tlua_top.specs.Reading.{start, Spelled, Reads}

@@ -1,22 +1,19 @@
 -- What the grammar spells the automaton reads.
-use Rattle.std.proofs.Common.{◌≡◌, ℕ, ◌+◌, ◌<◌, ◌≤◌, Bool, true, false, List, [], ◌∷◌, ◌++◌, length, Option, Some, None, refl, sym, ◌∙◌, ap, subst, append_assoc, append-nil, arith, add-zero, zero-add}
+use Rattle.std.proofs.Common.{◌≡◌, ℕ, ◌+◌, ◌<◌, ◌≤◌, false, List, [], ◌∷◌, ◌++◌, length, Option, Some, None, refl, sym, ◌∙◌, ap, append_assoc, append-nil, arith, zero-add}
 use Rattle.std.specs.Prelude.{nat_le}
 use Rattle.std.proofs.lemmas.Bool.Decides.{nat_tests}
 use Rattle.tl_base.specs.declared.place.Pos.{Pos}
 use Rattle.lua_tree.specs.declared.tree.Operator.{Operator}
 use Rattle.lua_tree.specs.declared.tree.Operator.TheVariants as operator
-use Rattle.lua_tree.specs.declared.tree.TypeName.{TypeName}
 use Rattle.lua_tree.specs.Tree.{Exp, binary, Line, print, declare, assign}
 use Rattle.lua_tree.specs.Shape.{place_of}
 use Rattle.tlua_top.specs.declared.reader.token.Symbol.TheVariants as sign
 use Rattle.tlua_top.specs.declared.reader.token.Word.{Word}
 use Rattle.tlua_top.specs.declared.reader.token.Word.TheVariants as word
-use Rattle.tlua_top.specs.declared.reader.token.TokenKind.{TokenKind}
 use Rattle.tlua_top.specs.declared.reader.token.TokenKind.TheVariants as kind
 use Rattle.tlua_top.specs.declared.reader.token.Token.{Token}
-use Rattle.tlua_top.specs.Tokens.{Text}
-use Rattle.tlua_top.specs.Grammar.{Tokens, Names, at, number_of, atom_of, atom_at, type_of, Product, atom, times, Sum, product, plus, minus, Spells, Arguments, one, more, Statement, printing, declaring, typing as with_annotation, assigning, Block, empty, next}
-use Rattle.tlua_top.specs.Machine.{Chain, Goal, argument, initial, stored, Stage, between, opening, naming, named, typing, typed, storing, wanting, having, Config, fresh, added, multiplied, wanted, with_type, begin_name, closed, run, then_run, last, goes}
+use Rattle.tlua_top.specs.Grammar.{Tokens, Names, at, atom_of, Product, atom, times, Sum, product, plus, minus, Spells, Arguments, one, more, Statement, printing, declaring, typing as with_annotation, assigning, Block, empty, next}
+use Rattle.tlua_top.specs.Machine.{Goal, argument, initial, stored, Stage, between, wanting, having, Config, fresh, added, multiplied, closed, run}
 
 abbrev pub standing : Names → List Line → Stage → Config
 standing names lines stage = record { names = names; lines = lines; stage = stage }

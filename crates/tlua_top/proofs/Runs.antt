@@ -1,5 +1,5 @@
 -- The steps of the run, one for each way in which an expression, a list of them or a statement ends.
-use Rattle.std.proofs.Common.{◌≡◌, ℕ, List, [], ◌∷◌, ◌++◌, Option, Some, None, Result, Ok, Err, refl, sym, ◌∙◌, ap, subst, append-nil, append_assoc, ◌<◌, length, map, drop, get_or, suc, drop-cons, ◌+◌, ◌≤◌, add-one}
+use Rattle.std.proofs.Common.{◌≡◌, ℕ, List, [], ◌∷◌, ◌++◌, Result, Ok, Err, refl, sym, ◌∙◌, ap, subst, append-nil, append_assoc, ◌<◌, length, map, drop, get_or, suc, drop-cons, ◌+◌, ◌≤◌, add-one}
 use Rattle.std.specs.Prelude.{codes, ℤ, FitsSigned, OnOk, slice_set}
 use Rattle.std.specs.Int.{int_wrap, w64}
 use Rattle.std.proofs.Common.{to_z, of_z}
@@ -14,7 +14,7 @@ use Rattle.lua_tree.specs.Tree.{Exp, Line, binary, mark, exp_of, line_of, lines_
 use Rattle.lua_tree.specs.Shape.{place_of}
 use Rattle.lua_meaning.specs.Values as v
 use Rattle.lua_meaning.specs.Values.{kind_of, text_of}
-use Rattle.lua_meaning.specs.State.{State, Ran, gives, raises, then_run, pass, raise_kind, write}
+use Rattle.lua_meaning.specs.State.{State, Ran, gives, pass, raise_kind, write}
 use Rattle.lua_meaning.specs.Meaning.{Frame, arithmetic_on, apply, operate, eval, eval_all, printed, exec, exec_all}
 use Rattle.tlua_top.specs.declared.run.value.Value.{Value}
 use Rattle.tlua_top.specs.declared.run.state.Stop.{Stop}

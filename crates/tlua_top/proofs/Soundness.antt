@@ -1,8 +1,7 @@
 -- A defined report's `kind` line names a crossing of its list, and a call has one defined ending at most.
-use Rattle.std.proofs.Common.{arith, zero, suc, ◌<◌, ◌≡◌, ◌⊎◌, inl, inr, ℕ, Bool, true, false, List, [], ◌∷◌, ◌++◌, Option, Some, None, length, refl, sym, ◌∙◌, ap, subst, append_assoc, append-nil, map}
+use Rattle.std.proofs.Common.{arith, zero, suc, ◌<◌, ◌≡◌, inl, inr, ℕ, Bool, true, false, List, [], ◌∷◌, ◌++◌, Option, Some, None, length, refl, sym, ◌∙◌, ap, subst, append_assoc}
 use Rattle.std.specs.Prelude.{nat_lt, codes, IfSome, MatchBool, slice_index_or}
 use Rattle.tl_base.specs.declared.place.ModuleKind.{ModuleKind}
-use Rattle.tl_base.specs.declared.place.ModuleKind.TheVariants.{Typed, Untyped}
 use Rattle.tl_base.specs.declared.crossing.Crossing.{Crossing}
 use Rattle.tl_edge.specs.declared.outside.FileBytes.{FileBytes}
 use Rattle.tl_edge.specs.Files.{bytes_of}
@@ -10,21 +9,18 @@ use Rattle.lua_tree.specs.Tree.{Line}
 use Rattle.tl_types.specs.Order.{below, consistent}
 use Rattle.tl_rules.specs.Checked.{Checked, fine, fault}
 use Rattle.tl_rules.specs.Rules.{check_module}
-use Rattle.tl_base.specs.declared.refusal.RefusalCode.{RefusalCode}
-use Rattle.tl_base.specs.declared.place.Pos.{Pos}
 use Rattle.tlua_top.specs.declared.status.Status.{Status}
 use Rattle.tl_rules.specs.Crossings.{module_marks, IsCrossingList}
 use Rattle.tl_rules.proofs.Crossings.{list_unique}
 use Rattle.lua_meaning.specs.State.{KindError}
-use Rattle.lua_meaning.specs.Program.{Module, Outcome, normal, failed, spent, Result, meaning}
-use Rattle.tl_sound.specs.Laws.{IsAfterOneOf, IsMarked}
+use Rattle.lua_meaning.specs.Program.{Outcome, normal, failed, spent}
+use Rattle.tl_sound.specs.Laws.{IsAfterOneOf}
 use Rattle.tl_sound.proofs.Sound.{errors_named}
 use Rattle.tlua_top.specs.Tokens.{Text}
-use Rattle.tlua_top.specs.Grammar.{IsModule}
 use Rattle.tlua_top.specs.Outcome.{Ending, only_reports}
 use Rattle.tlua_top.specs.Lines.{crossing_line, crossing_lines, kind_line, kind_lines, last_line}
-use Rattle.tlua_top.specs.Sound.{begins_with, IsPartOf, NamesCrossing, IsSound}
-use Rattle.tlua_top.specs.Defined.{admits, whole_file, refused, ran, run_of, status_of, budget, OfChecked, OfText, OfFile, OfWord, OfWords, Defined, file_to_run, kind_of_word}
+use Rattle.tlua_top.specs.Sound.{begins_with, IsPartOf, IsSound}
+use Rattle.tlua_top.specs.Defined.{ran, run_of, status_of, budget, OfChecked, OfText, OfFile, OfWord, OfWords, Defined, file_to_run, kind_of_word}
 use Rattle.tlua_top.proofs.Modules.{one_module}
 
 -- ---- the `kind` line
@@ -55,7 +51,10 @@ module _ (file output : Text) (status : Status) (list : List Crossing) (o : Outc
   told_sound : (e : Option KindError) → IfSome e (IsAfterOneOf list) → IsSound (told e)
   told_sound None h begins = let f : ⊥ = cc (last_not_kind o n) in absurd f
   told_sound (Some e) h begins = record {
-    file = file; place = e.place; crossing = h.0; rest = last_line o n;
+    file = file;
+    place = e.place;
+    crossing = h.0;
+    rest = last_line o n;
     named = ap (λ (a : Option Crossing). kind_line file (record { place = e.place; after = a }) ++ last_line o n) h.1;
     printed = line_printed file list h.0 h.2.0 h.2.1 h.2.2;
   }

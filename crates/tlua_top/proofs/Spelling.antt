@@ -6,8 +6,7 @@ use Rattle.tl_base.specs.declared.place.Pos.{Pos}
 use Rattle.lua_tree.specs.declared.tree.Operator.{Operator}
 use Rattle.lua_tree.specs.declared.tree.Operator.TheVariants as operator
 use Rattle.lua_tree.specs.declared.tree.TypeName.{TypeName}
-use Rattle.lua_tree.specs.Tree.{Exp, binary, Line, print, declare, assign}
-use Rattle.lua_tree.specs.Shape.{place_of}
+use Rattle.lua_tree.specs.Tree.{Exp, Line, declare}
 use Rattle.tlua_top.specs.declared.reader.token.Symbol.{Symbol}
 use Rattle.tlua_top.specs.declared.reader.token.Symbol.TheVariants as sign
 use Rattle.tlua_top.specs.declared.reader.token.Word.{Word}

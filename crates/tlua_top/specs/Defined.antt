@@ -1,5 +1,5 @@
 -- What words ask for, with these files and this input.
-use Rattle.std.specs.Prelude.{◌≡◌, ◌⊎◌, ◌==◌, ◌&&◌, not, ℕ, ◌-◌, Bool, true, false, List, [], ◌∷◌, ◌++◌, length, drop, Option, Some, None, codes, nat_lt, if◌then◌else◌, bytes_eq, MatchBool, Contains}
+use Rattle.std.specs.Prelude.{◌≡◌, ◌⊎◌, ◌==◌, ◌&&◌, not, ℕ, ◌-◌, Bool, true, false, List, [], ◌∷◌, ◌++◌, length, drop, Option, Some, None, codes, nat_lt, if◌then◌else◌, bytes_eq, MatchBool}
 use Rattle.std.specs.List.{list_all}
 use Rattle.std.specs.Option.{option_and_then}
 use Rattle.tl_base.specs.declared.place.Pos.{Pos}
@@ -15,7 +15,7 @@ use Rattle.tl_types.specs.Order.{below, consistent}
 use Rattle.tl_rules.specs.Checked.{Checked, fine, fault}
 use Rattle.tl_rules.specs.Rules.{check_module}
 use Rattle.tl_rules.specs.Crossings.{module_marks, IsCrossingList}
-use Rattle.lua_meaning.specs.Program.{Module, Outcome, normal, failed, spent, Result, meaning}
+use Rattle.lua_meaning.specs.Program.{Outcome, normal, failed, spent, Result, meaning}
 use Rattle.tlua_top.specs.declared.status.Status.{Status}
 use Rattle.tlua_top.specs.declared.status.Status.TheVariants as status
 use Rattle.tlua_top.specs.Tokens.{Text}

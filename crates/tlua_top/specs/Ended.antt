@@ -1,5 +1,5 @@
 -- What the code knows of a call's ending before it writes.
-use Rattle.std.specs.Prelude.{◌≡◌, ◌⊎◌, ◌++◌, true, List, Option, Some, None, Result, Ok, Err, IfOk}
+use Rattle.std.specs.Prelude.{◌≡◌, ◌⊎◌, ◌++◌, true, List, Result, Ok, Err}
 use Rattle.std.specs.Option.{option_map}
 use Rattle.tl_base.specs.declared.place.ModuleKind.{ModuleKind}
 use Rattle.tl_base.specs.declared.refusal.RefusalCode.TheVariants as code

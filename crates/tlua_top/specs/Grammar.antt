@@ -1,12 +1,11 @@
 -- The statements that tokens spell: a straight-line module (parts of Lua manual 3.3 and 3.4).
-use Rattle.std.specs.Prelude.{◌≡◌, ℕ, ◌+◌, ◌<◌, ◌≤◌, Bool, true, false, List, [], ◌∷◌, ◌++◌, length, Option, Some, None, codes, if◌then◌else◌, bytes_eq}
+use Rattle.std.specs.Prelude.{◌≡◌, ℕ, ◌+◌, ◌<◌, ◌≤◌, true, false, List, [], ◌∷◌, ◌++◌, length, Option, Some, None, codes, if◌then◌else◌, bytes_eq}
 use Rattle.std.specs.Option.{option_map}
 use Rattle.tl_base.specs.declared.place.Pos.{Pos}
-use Rattle.lua_tree.specs.declared.tree.Operator.{Operator}
 use Rattle.lua_tree.specs.declared.tree.Operator.TheVariants as operator
 use Rattle.lua_tree.specs.declared.tree.TypeName.{TypeName}
 use Rattle.lua_tree.specs.declared.tree.TypeName.TheVariants as named
-use Rattle.lua_tree.specs.Tree.{Exp, nothing, truth, integer, text, name, binary, mark, Line, print, declare, assign}
+use Rattle.lua_tree.specs.Tree.{Exp, nothing, truth, integer, text, name, binary, Line, print, declare, assign}
 use Rattle.lua_tree.specs.Shape.{place_of}
 use Rattle.tlua_top.specs.declared.reader.token.Symbol.TheVariants as sign
 use Rattle.tlua_top.specs.declared.reader.token.Word.{Word}

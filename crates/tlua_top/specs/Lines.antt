@@ -1,12 +1,12 @@
 -- The lines of the report. Each ends with a line feed. A place is FILE:LINE:COLUMN, with the file's word as it was given.
-use Rattle.std.specs.Prelude.{ℕ, ◌<◌, ◌/◌, ◌%◌, ◌+◌, ◌==◌, ◌||◌, List, [], ◌∷◌, ◌++◌, flat_map, Option, Some, None, codes, decimal, nat_lt, if◌then◌else◌}
+use Rattle.std.specs.Prelude.{ℕ, ◌/◌, ◌%◌, ◌+◌, ◌==◌, ◌||◌, List, [], ◌∷◌, ◌++◌, flat_map, Option, Some, None, codes, decimal, nat_lt, if◌then◌else◌}
 use Rattle.tl_base.specs.declared.place.Pos.{Pos}
 use Rattle.tl_base.specs.declared.crossing.Crossing.{Crossing}
 use Rattle.tl_base.specs.declared.refusal.RefusalCode.{RefusalCode}
 use Rattle.tl_base.specs.Names.{cross_name, code_name}
-use Rattle.lua_meaning.specs.Values.{Value, text_of}
+use Rattle.lua_meaning.specs.Values.{text_of}
 use Rattle.lua_meaning.specs.State.{KindError}
-use Rattle.lua_meaning.specs.Program.{Outcome, normal, failed, spent, Result}
+use Rattle.lua_meaning.specs.Program.{Outcome, normal, failed, spent}
 use Rattle.tlua_top.specs.Tokens.{Text}
 
 abbrev pub usage_line : Text

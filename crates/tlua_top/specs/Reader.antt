@@ -1,9 +1,7 @@
 -- The reader's state, seen as the automaton's.
-use Rattle.std.specs.Prelude.{◌≡◌, ◌≤◌, ℕ, List, length, map, reverse, Option, Some, None, Result, Ok, Err}
+use Rattle.std.specs.Prelude.{◌≡◌, ◌≤◌, List, length, map, reverse, Option, Some, None, Result, Ok, Err}
 use Rattle.std.specs.Option.{option_map}
-use Rattle.lua_tree.specs.declared.tree.Expr.{Expr}
 use Rattle.lua_tree.specs.declared.tree.Operator.{Operator}
-use Rattle.lua_tree.specs.declared.tree.Stat.{Stat}
 use Rattle.lua_tree.specs.Tree.{Exp, Line, exp_of, lines_of}
 use Rattle.tlua_top.specs.declared.reader.ReadError.{ReadError}
 use Rattle.tlua_top.specs.declared.reader.ReadError.TheVariants.{NotOfThisForm, NoMemory}
@@ -16,7 +14,7 @@ use Rattle.tlua_top.specs.declared.reader.stage.Stage.{Stage}
 use Rattle.tlua_top.specs.declared.reader.stage.Stage.TheVariants as stage
 use Rattle.tlua_top.specs.declared.reader.stage.Reader.{Reader}
 use Rattle.tlua_top.specs.Tokens.{Text}
-use Rattle.tlua_top.specs.Grammar.{Names, Tokens, Block}
+use Rattle.tlua_top.specs.Grammar.{Names}
 use Rattle.tlua_top.specs.Machine as m
 
 abbrev pub names_of : List Text → Names

@@ -1,9 +1,7 @@
 -- The code's run of a straight-line module, seen as the meaning's.
-use Rattle.std.specs.Prelude.{◌≡◌, ℕ, List, [], ◌∷◌, ◌++◌, map, flat_map, Option, Some, None, Result, Ok, Err}
+use Rattle.std.specs.Prelude.{◌≡◌, ℕ, List, [], ◌∷◌, ◌++◌, map, flat_map, Option, Result, Ok, Err}
 use Rattle.std.specs.Option.{option_map}
 use Rattle.tl_base.specs.declared.place.Pos.{Pos}
-use Rattle.tl_base.specs.declared.place.ModuleKind.{ModuleKind}
-use Rattle.tl_base.specs.declared.crossing.Crossing.{Crossing}
 use Rattle.lua_tree.specs.declared.tree.TypeName.{TypeName}
 use Rattle.lua_tree.specs.Tree.{Exp, print, declare, assign}
 use Rattle.lua_meaning.specs.Meaning.{Frame, exec}

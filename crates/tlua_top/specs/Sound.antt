@@ -1,5 +1,5 @@
 -- What the report of a run owes: its `kind` line names a crossing of the list that was printed before the run.
-use Rattle.std.specs.Prelude.{◌≡◌, ◌&&◌, ℕ, Bool, true, false, List, [], ◌∷◌, ◌++◌, nat_eq, codes, Some}
+use Rattle.std.specs.Prelude.{◌≡◌, ◌&&◌, Bool, true, false, [], ◌∷◌, ◌++◌, nat_eq, codes, Some}
 use Rattle.tl_base.specs.declared.place.Pos.{Pos}
 use Rattle.tl_base.specs.declared.crossing.Crossing.{Crossing}
 use Rattle.tlua_top.specs.Tokens.{Text}

@@ -3,11 +3,10 @@ ghost use Rattle.tl_edge.specs.Edge.{Rose};
 ghost use Rattle.tlua_top.specs.Outcome.{Stopped, Delivers};
 ghost use Rattle.tlua_top.specs.Ended.{ending_of};
 
-use tl_edge::Sink;
-
 use crate::ended::Ended;
 use crate::output::{stopped_by, write_all};
 use crate::status::Status;
+use tl_edge::Sink;
 
 /// Writes what a call comes to, in the order in which it may be seen: the report's lines before the run, the output, the lines after.
 pub fn deliver<O: Sink, R: Sink>(output: &mut O, report: &mut R, ended: &Ended) -> Status

@@ -3,22 +3,26 @@ ghost use Rattle.tl_edge.specs.declared.outside.FileBytes.{FileBytes as TheFile}
 ghost use Rattle.tlua_top.specs.Outcome.{Ending};
 ghost use Rattle.tlua_top.specs.Defined.{Defined};
 
-use std::alloc::Global;
-
-use tl_edge::{SureFiles, SureSink, SureSource};
-
 use crate::status::Status;
 use crate::top::tlua;
+use std::alloc::Global;
+use tl_edge::{SureFiles, SureSink, SureSource};
 
 /// The same words, files and input have one defined ending at most, so a status that isn't a stop comes exactly where it is defined.
 /// Nothing is computed: the contract is the law.
 pub fn one_ending()
     ensures { (words : List (List ℕ)) (files : List TheFile) (input : List ℕ) (a b : Ending) → Defined words files input a → Defined words files input b → a ≡ b }
-{
-}
+{}
 
 /// `tlua` over objects that never fail: its status is then none of the faults.
-pub fn sure_statuses(alloc: Global, words: &[String], files: &mut SureFiles, input: &mut SureSource, output: &mut SureSink, report: &mut SureSink) -> Status
+pub fn sure_statuses(
+    alloc: Global,
+    words: &[String],
+    files: &mut SureFiles,
+    input: &mut SureSource,
+    output: &mut SureSink,
+    report: &mut SureSink,
+) -> Status
     ensures read { result ≡ Status.ReadFault → ⊥ }
     ensures write { result ≡ Status.WriteFault → ⊥ }
 {

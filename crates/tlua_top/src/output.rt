@@ -1,7 +1,7 @@
-ghost use Rattle.std.specs.Prelude.{◌≡◌, ◌⊎◌, IsErrOf};
+ghost use Rattle.std.specs.Prelude.{◌≡◌, IsErrOf};
 ghost use Rattle.tl_edge.specs.Edge.{HasCause};
 ghost use Rattle.tlua_top.specs.Outcome.{Stopped};
-ghost use Rattle.tlua_top.specs.Output.{stop_of, WritesAll, Reports};
+ghost use Rattle.tlua_top.specs.Output.{stop_of, WritesAll};
 
 use crate::status::Status;
 use tl_edge::{Sink, SinkError};
@@ -29,18 +29,5 @@ pub fn stopped_by(error: SinkError) -> Status
     match error {
         SinkError::Failed => Status::WriteFault,
         SinkError::NoMemory => Status::NoMemory,
-    }
-}
-
-/// Writes lines of the report, and answers the status that follows them.
-pub fn report_line<S: Sink>(sink: &mut S, line: &[u8], status: Status) -> Status
-    requires { Stopped status → ⊥ }
-    ensures bytes { Reports (S.written sink.old) (S.written sink.new) line.now status result }
-    ensures cause { HasCause (S.faults sink.old) (S.faults sink.new) (result ≡ Status.WriteFault) }
-    ensures kind { (result ≡ status) ⊎ (result ≡ Status.WriteFault) ⊎ (result ≡ Status.NoMemory) }
-{
-    match write_all(sink, line) {
-        Ok(()) => status,
-        Err(error) => stopped_by(error),
     }
 }

@@ -5,17 +5,22 @@ ghost use Rattle.tlua_top.specs.Outcome.{Ending, Stopped, Meets};
 ghost use Rattle.tlua_top.specs.Defined.{file_to_run, kind_to_read, Defined};
 ghost use Rattle.tlua_top.specs.Sound.{IsSound};
 
-use std::alloc::Global;
-
-use tl_edge::{Files, Sink, Source};
-
 use crate::deliver::deliver;
 use crate::ended::{Unknown, settle};
 use crate::status::Status;
+use std::alloc::Global;
+use tl_edge::{Files, Sink, Source};
 
 /// Does what the words ask for. The words are those after the program's name. The program's own output goes to `output`, and all that
 /// is said of it to `report`. A straight-line module reads no input, so `input` is left alone.
-pub fn tlua<F: Files, I: Source, O: Sink, R: Sink>(alloc: Global, words: &[String], files: &mut F, input: &mut I, output: &mut O, report: &mut R) -> Status
+pub fn tlua<F: Files, I: Source, O: Sink, R: Sink>(
+    alloc: Global,
+    words: &[String],
+    files: &mut F,
+    input: &mut I,
+    output: &mut O,
+    report: &mut R,
+) -> Status
     // Where the files and the input tell what they have, status and bytes are those that the words ask for.
     ensures meaning { (told : List TheFile) (text : List ℕ) → F.told files.old ≡ Some told → I.left input.old ≡ Some text →
         Meets (Defined (map (λ word. string_bytes word) words.now) told text) result

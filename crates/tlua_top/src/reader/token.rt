@@ -26,6 +26,7 @@ pub enum Word {
     Name(Bytes),
 }
 
+/// What a token is.
 #[derive(Debug, Drop)]
 pub enum TokenKind {
     Word(Word),

@@ -1,4 +1,3 @@
-use Rattle.tlua_top.specs.Ended.{ending_of}
 use Rattle.tlua_top.proofs.Closing.{run_ok}
 use Rattle.tlua_top.proofs.ended.of_text.Goals as goal
 

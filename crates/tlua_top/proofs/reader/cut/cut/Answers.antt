@@ -1,6 +1,5 @@
-use Rattle.std.proofs.Common.{rules, arith, ◌≡◌, ◌∷◌, ◌++◌, ◌+◌, [], length, ap, subst, append_assoc, append-nil, List}
-use Rattle.tlua_top.specs.declared.reader.token.Token.{Token}
-use Rattle.tlua_top.specs.Tokens.{Cut, IsNext, place, finish}
+use Rattle.std.proofs.Common.{arith, ◌≡◌, ◌∷◌, [], length, ap, subst, append_assoc, append-nil}
+use Rattle.tlua_top.specs.Tokens.{Cut, place, finish}
 use Rattle.tlua_top.proofs.Cuts.{space_some, space_none, line_some, line_none, token_some, token_none}
 use Rattle.tlua_top.proofs.reader.cut.cut.Goals as goal
 

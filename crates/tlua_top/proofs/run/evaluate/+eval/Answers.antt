@@ -1,6 +1,6 @@
-use Rattle.std.proofs.Common.{◌≡◌, map, Err, Ok, subst, sym, ap, ◌∙◌}
+use Rattle.std.proofs.Common.{map, Err, Ok, subst, sym, ap, ◌∙◌}
 use Rattle.lua_tree.specs.declared.tree.Expr.{Expr}
-use Rattle.lua_tree.specs.Tree.{Exp, binary, mark, exp_of}
+use Rattle.lua_tree.specs.Tree.{Exp, exp_of}
 use Rattle.lua_tree.specs.Shape.{place_of}
 use Rattle.lua_meaning.specs.State.{pass}
 use Rattle.lua_meaning.specs.Meaning.{eval}

@@ -1,4 +1,4 @@
-use Rattle.std.proofs.Common.{map, arith}
+use Rattle.std.proofs.Common.{map}
 use Rattle.tlua_top.specs.Runs.{value_of, values_of, state_of}
 use Rattle.tlua_top.proofs.Runs.{list_stops}
 use Rattle.tlua_top.proofs.run.evaluate.eval_all.Goals as goal

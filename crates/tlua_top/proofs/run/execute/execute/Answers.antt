@@ -1,7 +1,6 @@
-use Rattle.std.proofs.Common.{map, ap, subst, ◌∙◌}
-use Rattle.lua_tree.specs.declared.tree.Expr.{Expr}
+use Rattle.std.proofs.Common.{map, ap}
 use Rattle.lua_tree.specs.Tree.{print, declare, assign, exp_of, line_of}
-use Rattle.tlua_top.specs.Runs.{value_of, state_of, Prints}
+use Rattle.tlua_top.specs.Runs.{value_of, state_of}
 use Rattle.tlua_top.proofs.Runs.{statement_is, print_is}
 use Rattle.tlua_top.proofs.run.execute.execute.Goals as goal
 
