@@ -105,6 +105,17 @@ not_below es m n at_m at_n h =
 pub one_border : (es : Entries) (m n : ℕ) → IsBorder es m → IsBorder es n → m ≡ n
 one_border es m n at_m at_n = omega (arith, not_below es m n at_m at_n, not_below es n m at_n at_m)
 
+-- no number below it has nil behind it
+pub border-least : (es : Entries) (n : ℕ) → get es (nth n) ≡ Nil → border es ≤ n
+border-least es n nothing =
+    ⊎_elim
+    (λ below.
+    let empty : is_nil (get es (nth n)) ≡ true = ap is_nil nothing in
+    let present : is_nil (get es (nth n)) ≡ false = (border-is es).below n below in
+    absurd (let differ : true ≡ false = sym empty ∙ present in cc))
+    (λ above. above)
+    (cases_lt n (border es))
+
 -- ---- how the border moves
 
 -- the number before a key that is a positive integer, and else a number past all those

@@ -1,5 +1,5 @@
+pub mod Arithmetic
 pub mod Border
-pub mod Laws
 pub mod Reading
 pub mod Tables
 pub mod Words

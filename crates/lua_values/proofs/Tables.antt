@@ -11,6 +11,7 @@ use Rattle.std.proofs.lemmas.Map.Made.{is_some-lookup}
 use Rattle.lua_values.specs.Values.{same_value, is_nil}
 use Rattle.lua_values.specs.Sameness.{same_value-Decides, same_value_equiv}
 use Rattle.lua_values.specs.Tables.{Entries, shown, shown_at, listed_at, get, put, set, first_present, behind, next_of, AreDistinct}
+use Rattle.lua_values.specs.Laws.{IsListed, IsUnlisted, AreRemoved}
 use Rattle.lua_values.specs.declared.value.Value.{Value}
 use Rattle.lua_values.specs.declared.value.Value.TheVariants.{Nil}
 
@@ -120,6 +121,14 @@ pub keys-set_listed : (es : Entries) (k v : Value) → is_some (listed_at es k) 
 keys-set_listed es k v there =
     set_cases (λ fs. keys_of fs ≡ keys_of es) es k v (is_nil v) (is_some (listed_at es k)) (keys-put_listed es k None there) refl (keys-put_listed es k (Some v) there)
 
+listed-keys : (es fs : Entries) (k : Value) → keys_of fs ≡ keys_of es → IsListed es k → IsListed fs k
+listed-keys es fs k same there = is_some-lookup (same_value k) fs ∙ ap (list_any (same_value k)) same ∙ sym (is_some-lookup (same_value k) es) ∙ there
+
+pub keys-set_again : (es : Entries) (k v : Value) → IsListed es k → keys_of (set (set es k Nil) k v) ≡ keys_of es
+keys-set_again es k v there =
+    let removed = keys-set_listed es k Nil there in
+    keys-set_listed (set es k Nil) k v (listed-keys es (set es k Nil) k removed there) ∙ removed
+
 -- and one at a new key that isn't nil puts it last
 pub set-new : (es : Entries) (k v : Value) → listed_at es k ≡ None → is_nil v ≡ false → set es k v ≡ es ++ (k, Some v) ∷ []
 set-new es k v absent present = ap (λ b. cond b (cond (is_some (listed_at es k)) (put es k None) es) (put es k (Some v))) present ∙ put-new es k (Some v) absent
@@ -202,3 +211,27 @@ behind-unlisted (e ∷ es) k absent = behind-cons e es k ∙ none_step e es k (s
 pub next-unlisted : (es : Entries) (k : Value) → is_nil k ≡ false → listed_at es k ≡ None → next_of es k ≡ None
 next-unlisted es k present absent =
     ap (λ b. cond b (Some (first_present es)) (option_map first_present (behind es k))) present ∙ ap (option_map first_present) (behind-unlisted es k absent)
+
+-- ---- the order of `next`, by the entries
+
+removed-none : (es : Entries) → AreRemoved es → first_present es ≡ None
+removed-none [] all = refl
+removed-none ((k, None) ∷ es) all = removed-none es all.1
+removed-none ((k, Some v) ∷ es) all = absurd (let found : Some v ≡ None = all.0 in cc)
+
+-- from nil on it goes to the first entry that isn't removed
+pub next-first : (gone rest : Entries) (k v : Value) → AreRemoved gone → next_of (gone ++ (k, Some v) ∷ rest) Nil ≡ Some (Some (k, v))
+next-first gone rest k v all = ap Some (present-stored gone rest k v (removed-none gone all))
+
+-- from a key on, to the first one behind it
+pub next-behind : (front gone rest : Entries) (k j v : Value) (slot : Option Value) → is_nil k ≡ false → IsUnlisted front k → AreRemoved gone
+    → next_of (front ++ (k, slot) ∷ (gone ++ (j, Some v) ∷ rest)) k ≡ Some (Some (j, v))
+next-behind front gone rest k j v slot present absent all =
+    next-key front (gone ++ (j, Some v) ∷ rest) k slot absent present ∙ ap Some (present-stored gone rest j v (removed-none gone all))
+
+-- and where there is none, it ends
+pub next-end : (front gone : Entries) (k : Value) (slot : Option Value) → is_nil k ≡ false → IsUnlisted front k → AreRemoved gone → next_of (front ++ (k, slot) ∷ gone) k ≡ Some None
+next-end front gone k slot present absent all = next-key front gone k slot absent present ∙ ap Some (removed-none gone all)
+
+pub next-empty : (gone : Entries) → AreRemoved gone → next_of gone Nil ≡ Some None
+next-empty gone all = ap Some (removed-none gone all)

@@ -1,4 +1,5 @@
 pub mod Integers
+pub mod Laws
 pub mod Numerals
 pub mod Sameness
 pub mod Shown

@@ -262,3 +262,16 @@ fn copies(rt: HostRuntime) -> Result<(), Fail> {
     is_copied(&rt, Value::Builtin(LibName::Print))?;
     Ok(())
 }
+
+#[test]
+fn laws_compute_nothing() {
+    quotient_and_remainder();
+    remainder_has_sign_of_divisor();
+    division_fails_by_zero();
+    shifts_empty_words();
+    words_wrap();
+    tables_give_what_was_stored();
+    keys_keep_their_places();
+    next_goes_in_order();
+    border_is_least();
+}

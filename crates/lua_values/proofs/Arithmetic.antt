@@ -1,10 +1,12 @@
 -- The laws of the arithmetic on integers.
-use Rattle.std.proofs.Common.{◌≡◌, ℕ, zero, suc, ◌+◌, ◌*◌, ◌/◌, ◌%◌, ◌<◌, ℤ, pos, negsuc, ◌+ℤ◌, ◌*ℤ◌, ◌≤ℤ◌, ◌<ℤ◌, refl, ap, None, arith, ◌≤◌, ◌-◌, ◌^◌, ⊎_elim, FitsSigned, ◌↔◌}
+use Rattle.std.proofs.Common.{◌≡◌, ℕ, zero, suc, ◌+◌, ◌*◌, ◌/◌, ◌%◌, ◌<◌, ℤ, pos, negsuc, ◌+ℤ◌, ◌*ℤ◌, ◌≤ℤ◌, ◌<ℤ◌, refl, sym, ap, None, arith, ◌≤◌, ◌-◌, ◌^◌, ⊎_elim, FitsSigned, ◌↔◌}
 use Rattle.std.specs.Int.{w64, int_wrap}
 use Rattle.std.proofs.lemmas.Int.{ints, int_wrap_fits, SFits-int_wrap}
 use Rattle.std.proofs.lemmas.Bool.{cases_lt, le-ltb}
 use mir.Val.{sel}
-use Rattle.lua_values.specs.Integers.{word, from_bits, floor_div, floor_mod, quotient, remainder}
+use Rattle.lua_values.specs.Integers.{word, from_bits, floor_div, floor_mod, quotient, remainder, shift_left, shift_right}
+use Rattle.lua_values.specs.Laws.{DifferByWords}
+use Rattle.lua_values.proofs.Words.{moved_left-far, moved_right-far}
 
 -- a word is an integer of 64 bits, and such an integer is its own word
 pub word-fits : (z : ℤ) → FitsSigned w64 (word z)
@@ -43,10 +45,6 @@ remainder-none a (pos zero) = (λ _. refl, λ _. refl)
 remainder-none a (pos (suc b)) = (λ e. cc, λ e. cc)
 remainder-none a (negsuc b) = (λ e. cc, λ e. cc)
 
--- two whole numbers differ by a multiple of 2 ^ 64
-abbrev pub DifferByWords : ℤ → ℤ → Type 0
-DifferByWords a b = (j : ℕ) × (k : ℕ) × (a +ℤ pos (j * 2 ^ 64) ≡ b +ℤ pos (k * 2 ^ 64))
-
 high_bits : (n : ℕ) → 2 ^ 63 ≤ n → from_bits n ≡ negsuc (2 ^ 64 - suc n)
 high_bits n h = ap (λ b. sel b (pos n) (negsuc (2 ^ 64 - suc n))) (le-ltb n (2 ^ 63) h)
 
@@ -58,3 +56,17 @@ pub word-differs : (z : ℤ) → DifferByWords z (word z)
 unfolding int_wrap
 word-differs (pos n) = let r = from_bits-differs (n % 2 ^ 64) (omega arith) in (0, n / 2 ^ 64 + r.0, omega (arith, ints, r.1))
 word-differs (negsuc n) = let r = from_bits-differs (2 ^ 64 - 1 - n % 2 ^ 64) (omega arith) in (n / 2 ^ 64 + 1, r.0, omega (arith, ints, r.1))
+
+-- 64 places or more leave no bit
+pub shift_left-far : (a : ℤ) (k : ℕ) → 64 ≤ k → shift_left a (pos k) ≡ pos 0
+shift_left-far a k far = sym (moved_left-far a k far)
+
+pub shift_right-far : (a : ℤ) (k : ℕ) → FitsSigned w64 a → 64 ≤ k → shift_right a (pos k) ≡ pos 0
+shift_right-far a k fits far = sym (moved_right-far a k fits far)
+
+-- a negative amount shifts the other way
+pub shift_left-negative : (a : ℤ) (k : ℕ) → shift_left a (negsuc k) ≡ shift_right a (pos (suc k))
+shift_left-negative a k = refl
+
+pub shift_right-negative : (a : ℤ) (k : ℕ) → shift_right a (negsuc k) ≡ shift_left a (pos (suc k))
+shift_right-negative a k = refl
