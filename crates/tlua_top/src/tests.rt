@@ -1,5 +1,6 @@
 mod calls;
 mod faults;
+mod laws;
 mod pieces;
 mod typed;
 mod untyped;
