@@ -1,6 +1,6 @@
 -- A defined report's `kind` line names a crossing of its list, and a call has one defined ending at most.
-use Rattle.std.proofs.Common.{arith, zero, suc, ◌<◌, ◌≡◌, inl, inr, ℕ, Bool, true, false, List, [], ◌∷◌, ◌++◌, Option, Some, None, length, refl, sym, ◌∙◌, ap, subst, append_assoc}
-use Rattle.std.specs.Prelude.{nat_lt, codes, IfSome, MatchBool, slice_index_or}
+use Rattle.std.proofs.Common.{◌≡◌, inl, inr, ℕ, Bool, true, false, List, [], ◌∷◌, ◌++◌, Option, Some, None, length, refl, sym, ◌∙◌, ap, subst}
+use Rattle.std.specs.Prelude.{nat_lt, codes, IfSome, MatchBool}
 use Rattle.tl_base.specs.declared.place.ModuleKind.{ModuleKind}
 use Rattle.tl_base.specs.declared.crossing.Crossing.{Crossing}
 use Rattle.tl_edge.specs.declared.outside.FileBytes.{FileBytes}
@@ -18,8 +18,8 @@ use Rattle.tl_sound.specs.Laws.{IsAfterOneOf}
 use Rattle.tl_sound.proofs.Sound.{errors_named}
 use Rattle.tlua_top.specs.Tokens.{Text}
 use Rattle.tlua_top.specs.Outcome.{Ending, only_reports}
-use Rattle.tlua_top.specs.Lines.{crossing_line, crossing_lines, kind_line, kind_lines, last_line}
-use Rattle.tlua_top.specs.Sound.{begins_with, IsPartOf, IsSound}
+use Rattle.tlua_top.specs.Lines.{crossing_lines, kind_line, kind_lines, last_line}
+use Rattle.tlua_top.specs.Sound.{begins_with, IsSound}
 use Rattle.tlua_top.specs.Defined.{ran, run_of, status_of, budget, OfChecked, OfText, OfFile, OfWord, OfWords, Defined, file_to_run, kind_of_word}
 use Rattle.tlua_top.proofs.Modules.{one_module}
 
@@ -33,17 +33,6 @@ last_not_kind normal n = refl
 last_not_kind (failed v) n = refl
 last_not_kind spent n = refl
 
--- each listed crossing has its line
-line_printed : (file : Text) (list : List Crossing) (c : Crossing) (k : ℕ) → k < length list → slice_index_or list k c ≡ c → IsPartOf (crossing_line file c) (crossing_lines file list)
-line_printed file [] c k inside is = absurd (omega arith)
-line_printed file (x ∷ xs) c zero inside is = ([], crossing_lines file xs, ap (λ z. crossing_line file z ++ crossing_lines file xs) is)
-line_printed file (x ∷ xs) c (suc k) inside is =
-    let p = line_printed file xs c k (omega arith) is in
-    (crossing_line file x ++ p.0, p.1, ap (λ z. crossing_line file x ++ z) p.2 ∙ sym (regroup (crossing_line file x) p.0 (crossing_line file c) p.1))
-  where
-    regroup : (a b l d : Text) → (a ++ b) ++ l ++ d ≡ a ++ (b ++ l ++ d)
-    regroup a b l d = simp append_assoc
-
 module _ (file output : Text) (status : Status) (list : List Crossing) (o : Outcome) (n : ℕ) where
   abbrev told : Option KindError → Ending
   told e = record { status = status; output = output; ahead = crossing_lines file list; after = kind_lines file e ++ last_line o n }
@@ -55,8 +44,10 @@ module _ (file output : Text) (status : Status) (list : List Crossing) (o : Outc
     place = e.place;
     crossing = h.0;
     rest = last_line o n;
+    list = list;
     named = ap (λ (a : Option Crossing). kind_line file (record { place = e.place; after = a }) ++ last_line o n) h.1;
-    printed = line_printed file list h.0 h.2.0 h.2.1 h.2.2;
+    printed = refl;
+    listed = h.2;
   }
 
 ran_sound : (file input : Text) (kind : ModuleKind) (lines marked : List Line) (list : List Crossing) (ending : Ending) → check_module below consistent kind lines ≡ fine marked

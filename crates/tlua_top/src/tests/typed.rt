@@ -1,5 +1,7 @@
 use crate::Status;
 use crate::tests::calls::{check_run, repeated};
+use std::alloc::Global;
+use std::process::Abort;
 use std::test::Fail;
 
 #[test]
@@ -138,87 +140,37 @@ fn other_typed_modules_are_refused(rt: HostRuntime) -> Result<(), Fail> {
     Ok(())
 }
 
+/// A module that has its middle part so many times runs and prints this, or is refused where nothing is to be printed.
+fn check_repeated<R: Abort>(
+    rt: &R,
+    alloc: Global,
+    parts: (&str, &str, &str),
+    count: u32,
+    printed: &str,
+) -> Result<(), Fail> {
+    let text = repeated(alloc, parts.0, parts.1, count, parts.2)?;
+    let (status, line) = if printed.is_empty() {
+        (Status::Refused, "refused main.tl:1:1 X1\n")
+    } else {
+        (Status::Done, "done 1\n")
+    };
+    check_run(rt, alloc, "main.tl", text.as_bytes(), status, printed, line)
+}
+
 #[test]
 fn typed_modules_have_200_locals_and_200_atoms(rt: HostRuntime) -> Result<(), Fail> {
     let alloc = rt.alloc();
-    let refused = "refused main.tl:1:1 X1\n";
-    for (head, piece, count, tail, status, printed, line) in [
-        (
-            "local x = 0 ",
-            "local x = x + 1 ",
-            199,
-            "print(x)",
-            Status::Done,
-            "199\n",
-            "done 1\n",
-        ),
-        (
-            "local x = 0 ",
-            "local x = x + 1 ",
-            200,
-            "print(x)",
-            Status::Refused,
-            "",
-            refused,
-        ),
-        (
-            "local x = 0 x = x",
-            " + 1",
-            199,
-            " print(x)",
-            Status::Done,
-            "199\n",
-            "done 1\n",
-        ),
-        (
-            "local x = 0 x = x",
-            " + 1",
-            200,
-            " print(x)",
-            Status::Refused,
-            "",
-            refused,
-        ),
-        (
-            "local x = 0 local y = x",
-            " - 1",
-            200,
-            " print(y)",
-            Status::Refused,
-            "",
-            refused,
-        ),
-        (
-            "local x = 2 print(x, 1",
-            " * x",
-            199,
-            ")",
-            Status::Done,
-            "2\t0\n",
-            "done 1\n",
-        ),
-        (
-            "local x = 2 print(x, 1",
-            " * x",
-            200,
-            ")",
-            Status::Refused,
-            "",
-            refused,
-        ),
-    ] {
-        let text = repeated(alloc, head, piece, count, tail)?;
-        check_run(
-            &rt,
-            alloc,
-            "main.tl",
-            text.as_bytes(),
-            status,
-            printed,
-            line,
-        )?;
-    }
-    Ok(())
+    let locals = ("local x = 0 ", "local x = x + 1 ", "print(x)");
+    let sum = ("local x = 0 x = x", " + 1", " print(x)");
+    let difference = ("local x = 0 local y = x", " - 1", " print(y)");
+    let product = ("local x = 2 print(x, 1", " * x", ")");
+    check_repeated(&rt, alloc, locals, 199, "199\n")?;
+    check_repeated(&rt, alloc, locals, 200, "")?;
+    check_repeated(&rt, alloc, sum, 199, "199\n")?;
+    check_repeated(&rt, alloc, sum, 200, "")?;
+    check_repeated(&rt, alloc, difference, 200, "")?;
+    check_repeated(&rt, alloc, product, 199, "2\t0\n")?;
+    check_repeated(&rt, alloc, product, 200, "")
 }
 
 #[test]
