@@ -1,8 +1,15 @@
-//! The trees of modules that reader, checker and meaning share: so far straight-line modules.
+//! The trees of modules, which all parts of `tlua` share: what the parser reads is checked, erased, run and compiled.
+//! And the names of the library.
 #![tactic(auto)]
 
+mod annotation;
 mod names;
-mod tree;
+mod scoped;
+mod syntax;
 
+pub use annotation::{Name, TypeExpr, TypeField, TypeResults, TypeTuple, Typed};
 pub use names::{LibName, lib_named, lib_text};
-pub use tree::{Chunk, Expr, Operator, Stat, TypeName};
+pub use scoped::{LocalInfo, Require, Scoped, Use};
+pub use syntax::{
+    BinaryOperator, Block, Body, Chunk, Clause, Entry, Expr, Rest, Return, Stat, UnaryOperator,
+};
