@@ -1,1 +1,6 @@
+pub mod Height
 pub mod Names
+pub mod Places
+pub mod Plain
+pub mod Tree
+pub mod View

@@ -3,11 +3,15 @@
 #![tactic(auto)]
 
 mod annotation;
+mod measure;
 mod names;
 mod scoped;
 mod syntax;
+#[cfg(test)]
+mod tests;
 
 pub use annotation::{Name, TypeExpr, TypeField, TypeResults, TypeTuple, Typed};
+pub use measure::height;
 pub use names::{LibName, lib_named, lib_text};
 pub use scoped::{LocalInfo, Require, Scoped, Use};
 pub use syntax::{
