@@ -3,7 +3,7 @@
 use Rattle.std.specs.Prelude.{ℕ, ◌+◌, max}
 use Rattle.lua_tree.specs.Tree as tree
 use Rattle.lua_tree.specs.Tree.{Exp, Multi, Exps, Entries}
-use Rattle.lua_tree.specs.View.{SeenEntry, item, named, keyed, one}
+use Rattle.lua_tree.specs.View.{SeenEntry, item, named, keyed}
 
 abbrev mutual
   pub height : Exp → ℕ
@@ -45,4 +45,4 @@ abbrev mutual
 abbrev pub entry_height : SeenEntry → ℕ
 entry_height (keyed k e) = max (height k) (height e)
 entry_height (named n e) = height e
-entry_height (item x) = height (one x)
+entry_height (item e) = height e

@@ -95,3 +95,17 @@ mutual
     finish : Block
     returns : Pos → Exps → Block
     next : Stat → Block → Block
+
+-- a mark on an expression stands where its values are
+abbrev pub marked : CrossKind → Exp → Exp
+marked k (one_of m) = one_of (mark_all k m)
+marked k e = mark k e
+
+-- a list of values with one expression more before it: alone, an expression gives all its values
+abbrev pub push : Exp → Exps → Exps
+push (one_of m) none = ends m
+push e es = more e es
+
+abbrev pub push_item : Exp → Entries → Entries
+push_item (one_of m) no_entry = all_items m
+push_item e es = item e es

@@ -15,15 +15,10 @@ use Rattle.lua_tree.specs.declared.syntax.Body.{Body, fold-Body}
 use Rattle.lua_tree.specs.declared.syntax.Clause.{Clause, fold-Clause}
 use Rattle.lua_tree.specs.declared.syntax.Return.{Return, fold-Return}
 use Rattle.lua_tree.specs.Tree as tree
-use Rattle.lua_tree.specs.Tree.{Exp, Multi, Exps, Entries, Function, Stat, Targets, Clauses, Else, Step, Block}
-
--- an expression: of one value, or of any number
-pub data Seen : Type 0 where
-  single : Exp → Seen
-  many : Multi → Seen
+use Rattle.lua_tree.specs.Tree.{Exp, Exps, Entries, Function, Stat, Targets, Clauses, Else, Step, Block}
 
 pub data SeenEntry : Type 0 where
-  item : Seen → SeenEntry
+  item : Exp → SeenEntry
   named : Name → Exp → SeenEntry
   keyed : Exp → Exp → SeenEntry
 
@@ -35,25 +30,19 @@ pub record SeenClause : Type 0 where
   pub condition : Exp
   pub body : Block
 
-abbrev pub one : Seen → Exp
-one (single e) = e
-one (many m) = tree.one_of m
-
-abbrev pub exps_from : List Seen → Exps
+abbrev pub exps_from : List Exp → Exps
 exps_from [] = tree.none
-exps_from (many m ∷ []) = tree.ends m
-exps_from (e ∷ es) = tree.more (one e) (exps_from es)
+exps_from (e ∷ es) = tree.push e (exps_from es)
 
 abbrev pub entries_from : List SeenEntry → Entries
 entries_from [] = tree.no_entry
-entries_from (item (many m) ∷ []) = tree.all_items m
-entries_from (item e ∷ es) = tree.item (one e) (entries_from es)
+entries_from (item e ∷ es) = tree.push_item e (entries_from es)
 entries_from (named n e ∷ es) = tree.named n e (entries_from es)
 entries_from (keyed k e ∷ es) = tree.keyed k e (entries_from es)
 
-abbrev pub targets_from : List Seen → Targets
+abbrev pub targets_from : List Exp → Targets
 targets_from [] = tree.no_target
-targets_from (e ∷ es) = tree.target (one e) (targets_from es)
+targets_from (e ∷ es) = tree.target e (targets_from es)
 
 abbrev pub clauses_from : List SeenClause → Clauses
 clauses_from [] = tree.no_clause
@@ -63,9 +52,9 @@ abbrev pub else_from : Option Block → Else
 else_from None = tree.no_else
 else_from (Some b) = tree.else_do b
 
-abbrev pub step_from : Option Seen → Step
+abbrev pub step_from : Option Exp → Step
 step_from None = tree.no_step
-step_from (Some e) = tree.step (one e)
+step_from (Some e) = tree.step e
 
 abbrev pub end_from : Option SeenReturn → Block
 end_from None = tree.finish
@@ -75,96 +64,88 @@ abbrev pub block_from : List Stat → Option SeenReturn → Block
 block_from [] r = end_from r
 block_from (s ∷ ss) r = tree.next s (block_from ss r)
 
--- a mark stands where the values are
-abbrev pub marked : CrossKind → Seen → Seen
-marked k (single e) = single (tree.mark k e)
-marked k (many m) = many (tree.mark_all k m)
-
-abbrev pub entry_at : Entry-F SeenEntry Seen Stat Block Function SeenClause SeenReturn → SeenEntry
-entry_at (open_tree.Keyed k e) = keyed (one k) (one e)
-entry_at (open_tree.Named n e) = named n (one e)
+abbrev pub entry_at : Entry-F SeenEntry Exp Stat Block Function SeenClause SeenReturn → SeenEntry
+entry_at (open_tree.Keyed k e) = keyed k e
+entry_at (open_tree.Named n e) = named n e
 entry_at (open_tree.Item e) = item e
 
-abbrev pub expr_at : Expr-F SeenEntry Seen Stat Block Function SeenClause SeenReturn → Seen
-expr_at (open_tree.Nil p) = single (tree.nothing p)
-expr_at (open_tree.Bool p b) = single (tree.truth p b)
-expr_at (open_tree.Int p n) = single (tree.integer p n)
-expr_at (open_tree.Str p s) = single (tree.text p s)
-expr_at (open_tree.Vararg p) = many (tree.vararg p)
-expr_at (open_tree.«Expr::Function» p f) = single (tree.function p f)
-expr_at (open_tree.Name p n s) = single (tree.name p n s)
-expr_at (open_tree.Paren p e) = single (tree.paren p (one e))
-expr_at (open_tree.Field p e n) = single (tree.field p (one e) n)
-expr_at (open_tree.Index p e k) = single (tree.index p (one e) (one k))
-expr_at (open_tree.«Expr::Call» p f es) = many (tree.call p (one f) (exps_from es))
-expr_at (open_tree.«Expr::Method» p e n es) = many (tree.method p (one e) n (exps_from es))
-expr_at (open_tree.Table p es) = single (tree.table p (entries_from es))
-expr_at (open_tree.Unary p o e) = single (tree.unary p o (one e))
-expr_at (open_tree.Binary p o a b) = single (tree.binary p o (one a) (one b))
-expr_at (open_tree.Mark k e) = marked k e
+abbrev pub expr_at : Expr-F SeenEntry Exp Stat Block Function SeenClause SeenReturn → Exp
+expr_at (open_tree.Nil p) = tree.nothing p
+expr_at (open_tree.Bool p b) = tree.truth p b
+expr_at (open_tree.Int p n) = tree.integer p n
+expr_at (open_tree.Str p s) = tree.text p s
+expr_at (open_tree.Vararg p) = tree.one_of (tree.vararg p)
+expr_at (open_tree.«Expr::Function» p f) = tree.function p f
+expr_at (open_tree.Name p n s) = tree.name p n s
+expr_at (open_tree.Paren p e) = tree.paren p e
+expr_at (open_tree.Field p e n) = tree.field p e n
+expr_at (open_tree.Index p e k) = tree.index p e k
+expr_at (open_tree.«Expr::Call» p f es) = tree.one_of (tree.call p f (exps_from es))
+expr_at (open_tree.«Expr::Method» p e n es) = tree.one_of (tree.method p e n (exps_from es))
+expr_at (open_tree.Table p es) = tree.table p (entries_from es)
+expr_at (open_tree.Unary p o e) = tree.unary p o e
+expr_at (open_tree.Binary p o a b) = tree.binary p o a b
+expr_at (open_tree.Mark k e) = tree.marked k e
 
-abbrev pub stat_at : Stat-F SeenEntry Seen Stat Block Function SeenClause SeenReturn → Stat
+abbrev pub stat_at : Stat-F SeenEntry Exp Stat Block Function SeenClause SeenReturn → Stat
 stat_at (open_tree.Empty p) = tree.empty p
 stat_at (open_tree.Assign p ts es) = tree.assign p (targets_from ts) (exps_from es)
-stat_at (open_tree.«Stat::Call» p e) = tree.run p (one e)
+stat_at (open_tree.«Stat::Call» p e) = tree.run p e
 stat_at (open_tree.Break p) = tree.leave p
 stat_at (open_tree.Do p b) = tree.scope p b
-stat_at (open_tree.While p e b) = tree.while p (one e) b
-stat_at (open_tree.Repeat p b e) = tree.repeat p b (one e)
+stat_at (open_tree.While p e b) = tree.while p e b
+stat_at (open_tree.Repeat p b e) = tree.repeat p b e
 stat_at (open_tree.If p cs b) = tree.choose p (clauses_from cs) (else_from b)
-stat_at (open_tree.NumericFor p n a b c d) = tree.count p n (one a) (one b) (step_from c) d
+stat_at (open_tree.NumericFor p n a b c d) = tree.count p n a b (step_from c) d
 stat_at (open_tree.GenericFor p ns es b) = tree.each p ns (exps_from es) b
-stat_at (open_tree.«Stat::Function» p e f) = tree.define p (one e) (one f)
-stat_at (open_tree.«Stat::Method» p e n f) = tree.define_method p (one e) n (one f)
-stat_at (open_tree.LocalFunction p n f) = tree.declare_function p n (one f)
+stat_at (open_tree.«Stat::Function» p e f) = tree.define p e f
+stat_at (open_tree.«Stat::Method» p e n f) = tree.define_method p e n f
+stat_at (open_tree.LocalFunction p n f) = tree.declare_function p n f
 stat_at (open_tree.Local p ns es) = tree.declare p ns (exps_from es)
 stat_at (open_tree.Interface p n fs) = tree.interface p n fs
 stat_at (open_tree.Alias p n t) = tree.alias p n t
 
-abbrev pub block_at : Block-F SeenEntry Seen Stat Block Function SeenClause SeenReturn → Block
+abbrev pub block_at : Block-F SeenEntry Exp Stat Block Function SeenClause SeenReturn → Block
 block_at b = block_from b.stats b.result
 
-abbrev pub body_at : Body-F SeenEntry Seen Stat Block Function SeenClause SeenReturn → Function
+abbrev pub body_at : Body-F SeenEntry Exp Stat Block Function SeenClause SeenReturn → Function
 body_at b = tree.function_of b.params b.rest b.results b.block
 
-abbrev pub clause_at : Clause-F SeenEntry Seen Stat Block Function SeenClause SeenReturn → SeenClause
-clause_at c = record { condition = one c.condition; body = c.block }
+abbrev pub clause_at : Clause-F SeenEntry Exp Stat Block Function SeenClause SeenReturn → SeenClause
+clause_at c = record { condition = c.condition; body = c.block }
 
-abbrev pub return_at : Return-F SeenEntry Seen Stat Block Function SeenClause SeenReturn → SeenReturn
+abbrev pub return_at : Return-F SeenEntry Exp Stat Block Function SeenClause SeenReturn → SeenReturn
 return_at r = record { place = r.pos; values = exps_from r.values }
 
-abbrev pub seen : Expr → Seen
-seen = fold-Expr SeenEntry Seen Stat Block Function SeenClause SeenReturn entry_at expr_at stat_at block_at body_at clause_at return_at
-
 abbrev pub exp_of : Expr → Exp
-exp_of e = one (seen e)
+exp_of = fold-Expr SeenEntry Exp Stat Block Function SeenClause SeenReturn entry_at expr_at stat_at block_at body_at clause_at return_at
 
 abbrev pub exps_of : List Expr → Exps
-exps_of es = exps_from (map seen es)
+exps_of es = exps_from (map exp_of es)
 
 abbrev pub entry_of : Entry → SeenEntry
-entry_of = fold-Entry SeenEntry Seen Stat Block Function SeenClause SeenReturn entry_at expr_at stat_at block_at body_at clause_at return_at
+entry_of = fold-Entry SeenEntry Exp Stat Block Function SeenClause SeenReturn entry_at expr_at stat_at block_at body_at clause_at return_at
 
 abbrev pub entries_of : List Entry → Entries
 entries_of es = entries_from (map entry_of es)
 
 abbrev pub stat_of : declared_stat.Stat → Stat
-stat_of = fold-Stat SeenEntry Seen Stat Block Function SeenClause SeenReturn entry_at expr_at stat_at block_at body_at clause_at return_at
+stat_of = fold-Stat SeenEntry Exp Stat Block Function SeenClause SeenReturn entry_at expr_at stat_at block_at body_at clause_at return_at
 
 abbrev pub block_of : declared_block.Block → Block
-block_of = fold-Block SeenEntry Seen Stat Block Function SeenClause SeenReturn entry_at expr_at stat_at block_at body_at clause_at return_at
+block_of = fold-Block SeenEntry Exp Stat Block Function SeenClause SeenReturn entry_at expr_at stat_at block_at body_at clause_at return_at
 
 abbrev pub function_of : Body → Function
-function_of = fold-Body SeenEntry Seen Stat Block Function SeenClause SeenReturn entry_at expr_at stat_at block_at body_at clause_at return_at
+function_of = fold-Body SeenEntry Exp Stat Block Function SeenClause SeenReturn entry_at expr_at stat_at block_at body_at clause_at return_at
 
 abbrev pub clause_of : Clause → SeenClause
-clause_of = fold-Clause SeenEntry Seen Stat Block Function SeenClause SeenReturn entry_at expr_at stat_at block_at body_at clause_at return_at
+clause_of = fold-Clause SeenEntry Exp Stat Block Function SeenClause SeenReturn entry_at expr_at stat_at block_at body_at clause_at return_at
 
 abbrev pub return_of : Return → SeenReturn
-return_of = fold-Return SeenEntry Seen Stat Block Function SeenClause SeenReturn entry_at expr_at stat_at block_at body_at clause_at return_at
+return_of = fold-Return SeenEntry Exp Stat Block Function SeenClause SeenReturn entry_at expr_at stat_at block_at body_at clause_at return_at
 
 abbrev pub targets_of : List Expr → Targets
-targets_of ts = targets_from (map seen ts)
+targets_of ts = targets_from (map exp_of ts)
 
 abbrev pub clauses_of : List Clause → Clauses
 clauses_of cs = clauses_from (map clause_of cs)
