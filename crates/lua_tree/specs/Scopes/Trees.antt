@@ -34,9 +34,9 @@ pub record Said : Type 0 where
   pub name : Option Word
   pub literal : Option Word
 
--- a function, whose first parameters aren't written
+-- a function, after what its parameters begin with that isn't written
 abbrev pub Bodied : Type 0
-Bodied = List Name → Events
+Bodied = Events → Events
 
 abbrev pub said : Events → Said
 said es = record { value = es; target = es; method = es; name = None; literal = None }
@@ -57,6 +57,9 @@ declares ns = map (λ n. says.declare n.pos n.text) ns
 abbrev pub appear : List Name → Event
 appear ns = says.appear (length ns)
 
+abbrev pub shows : List Name → Events
+shows ns = declares ns ++ appear ns ∷ []
+
 abbrev pub names : List Typed → List Name
 names ps = map (λ p. p.name) ps
 
@@ -66,6 +69,9 @@ scope begins es = begins ∷ es ++ says.finish ∷ []
 
 abbrev pub self_at : Pos → Name
 self_at p = record { pos = p; text = codes "self" }
+
+abbrev pub hidden_self : Option Pos → Events
+hidden_self p = option_map_or (λ q. shows (self_at q ∷ [])) p []
 
 abbrev pub field_value : Option Word → Events → Name → Events
 field_value None es key = es
@@ -86,7 +92,7 @@ expr_at (open_tree.Bool p b) = said []
 expr_at (open_tree.Int p n) = said []
 expr_at (open_tree.Str p s) = record (said []) { literal = Some (record { pos = p; text = s }) }
 expr_at (open_tree.Vararg p) = said (says.vararg p ∷ [])
-expr_at (open_tree.«Expr::Function» p f) = record (said (f [])) { method = f (self_at p ∷ []) }
+expr_at (open_tree.«Expr::Function» p f) = record (said (f (hidden_self None))) { method = f (hidden_self (Some p)) }
 expr_at (open_tree.Name p n s) = record (said (says.use_name p s ∷ [])) { target = says.assign_name p s ∷ []; name = Some (record { pos = p; text = s }) }
 expr_at (open_tree.Paren p e) = said e.value
 expr_at (open_tree.Field p e n) = record (said (field_value e.name e.value n)) { target = field_target e.name e.value n }
@@ -120,7 +126,7 @@ stat_at (open_tree.GenericFor p ns es b) = scope says.loop (declares ns ++ value
 stat_at (open_tree.«Stat::Function» p e f) = e.target ++ f.value
 stat_at (open_tree.«Stat::Method» p e n f) = e.value ++ f.method
 -- a local function sees itself
-stat_at (open_tree.LocalFunction p n f) = declares (n ∷ []) ++ appear (n ∷ []) ∷ f.value
+stat_at (open_tree.LocalFunction p n f) = shows (n ∷ []) ++ f.value
 -- a local isn't seen in its own statement
 stat_at (open_tree.Local p ns es) = declares (names ns) ++ values es ++ appear (names ns) ∷ []
 stat_at (open_tree.Interface p n fs) = []
@@ -133,7 +139,7 @@ abbrev pub block_at : Block-F Events Said Events Events Bodied Events Events →
 block_at b = flat_map (λ s. s) b.stats ++ option_map_or (λ r. r) b.result []
 
 abbrev pub body_at : Body-F Events Said Events Events Bodied Events Events → Bodied
-body_at b hidden = scope (says.function (is_some b.rest)) (declares (hidden ++ names b.params) ++ appear (hidden ++ names b.params) ∷ b.block)
+body_at b hidden = scope (says.function (is_some b.rest)) (hidden ++ shows (names b.params) ++ b.block)
 
 abbrev pub clause_at : Clause-F Events Said Events Events Bodied Events Events → Events
 clause_at c = c.condition.value ++ scope says.block c.block
