@@ -1,5 +1,5 @@
 -- What each word on names means where it stands: the step from what was found before it to what is found after it, or the refusal.
-use Rattle.std.specs.Prelude.{ℕ, ◌+◌, Bool, true, false, cond, not, ◌==◌, ◌&&◌, ◌||◌, nat_lt, List, [], ◌∷◌, ◌++◌, take, drop, length, map, filter, count_by, Option, Some, None, Result, Ok, Err, slice_get, slice_set, option_and_then, codes}
+use Rattle.std.specs.Prelude.{ℕ, ◌+◌, Bool, true, false, cond, not, ◌==◌, ◌&&◌, ◌||◌, nat_lt, List, [], ◌∷◌, ◌++◌, take, drop, length, map, filter, count_by, reverse, option_map, Option, Some, None, Result, Ok, Err, slice_get, slice_set, option_and_then, codes}
 use Rattle.std.specs.Option.{option_map_or}
 use Rattle.std.specs.List.{find, list_any}
 use Rattle.std.specs.Str.{bytes_eq}
@@ -16,7 +16,7 @@ use Rattle.lua_tree.specs.declared.scoped.Require.{Require}
 use Rattle.lua_tree.specs.Scopes.Events as says
 use Rattle.lua_tree.specs.Scopes.Events.{Event}
 use Rattle.lua_tree.specs.Scopes.Library.{named, is_library_table}
-use Rattle.lua_tree.specs.Scopes.Places.{Binding, Place, Capture, Found, State}
+use Rattle.lua_tree.specs.Scopes.Places.{Local, Binding, Place, Capture, Found, State}
 
 abbrev pub Outcome : Type 0
 Outcome = Result State Refusal
@@ -50,7 +50,7 @@ back_to (p ∷ ps) s = record s { place = p; around = ps }
 abbrev pub declared_local : List ℕ → State → State
 declared_local name s = record s {
     place = record s.place { alive = s.place.alive + 1 };
-    declared = record { name = name; local = length s.found.locals; function = s.place.function } ∷ s.declared;
+    declared = record { name = name; local = record { number = length s.found.locals; function = s.place.function } } ∷ s.declared;
     found = record s.found { locals = s.found.locals ++ record { function = s.place.function; captured = false; assigned = false; assigned_in_closure = false } ∷ [] };
   }
 
@@ -67,26 +67,36 @@ appeared n s = record s {
 -- ---- uses
 
 -- the local that a name means: the latest of those in scope
-abbrev pub local_named : List ℕ → State → Option Binding
-local_named name s = find (λ b. bytes_eq b.name name) s.place.visible
+abbrev pub latest : List ℕ → List Binding → Option Local
+latest name bs = option_map (λ b. b.local) (find (λ b. bytes_eq b.name name) bs)
+
+abbrev pub local_named : List ℕ → State → Option Local
+local_named name s = latest name s.place.visible
 
 abbrev pub with_use : Use → Found → Found
 with_use u f = record f { uses = f.uses ++ u ∷ [] }
 
 abbrev pub is_capture : Capture → Capture → Bool
-is_capture c d = (c.function == d.function) && (c.local == d.local)
+is_capture c d = (c.0 == d.0) && (c.1 == d.1)
+
+abbrev pub captures_of : ℕ → List Capture → ℕ
+captures_of function cs = count_by (λ c. function == c.0) cs
 
 -- a function captures a local once, and at most 255 locals; none where it would be one more
 abbrev pub captured : Capture → List Capture → Option (List Capture)
-captured c cs = cond (list_any (is_capture c) cs) (Some cs) (cond (nat_lt (count_by (λ d. c.function == d.function) cs) 255) (Some (cs ++ c ∷ [])) None)
+captured c cs = cond (list_any (is_capture c) cs) (Some cs) (cond (nat_lt (captures_of c.0 cs) 255) (Some (cs ++ c ∷ [])) None)
 
 abbrev pub captured_by : ℕ → List ℕ → List Capture → Option (List Capture)
 captured_by local [] cs = Some cs
-captured_by local (f ∷ fs) cs = option_and_then (captured_by local fs) (captured (record { function = f; local = local }) cs)
+captured_by local (f ∷ fs) cs = option_and_then (captured_by local fs) (captured (f, local) cs)
 
--- the functions around a place that stand inside a function: they have greater numbers
-abbrev pub inside : ℕ → State → List ℕ
-inside function s = filter (λ f. nat_lt function f) (s.place.function ∷ map (λ p. p.function) s.around)
+-- the functions of the blocks around, from the outermost to the innermost
+abbrev pub functions : State → List ℕ
+functions s = map (λ p. p.function) (reverse s.around) ++ s.place.function ∷ []
+
+-- those that stand inside the function that declares a local, which have greater numbers
+abbrev pub crossed : Local → State → List ℕ
+crossed l s = cond (l.function == s.place.function) [] (filter (λ f. nat_lt l.function f) (functions s))
 
 -- what a use tells of the local: whether it assigns it, and whether it stands in a function inside the one that declares it
 abbrev pub told : Bool → Bool → LocalInfo → LocalInfo
@@ -99,17 +109,17 @@ told assigns inner i = record i {
 abbrev pub told_of : ℕ → (LocalInfo → LocalInfo) → List LocalInfo → List LocalInfo
 told_of local f locals = option_map_or (λ i. slice_set locals local (f i)) (slice_get locals local) locals
 
-abbrev pub with_local : Bool → Binding → State → List Capture → State
-with_local assigns b s cs = record s {
-    found = record (with_use (means.Local b.local) s.found) {
+abbrev pub with_local : Bool → Local → State → List Capture → State
+with_local assigns l s cs = record s {
+    found = record (with_use (means.Local l.number) s.found) {
       captures = cs;
-      locals = told_of b.local (told assigns (not (b.function == s.place.function))) s.found.locals;
+      locals = told_of l.number (told assigns (not (l.function == s.place.function))) s.found.locals;
     };
   }
 
 -- a use of a local: every function between it and the declaration captures the local
-abbrev pub use_local : Bool → Pos → State → Binding → Outcome
-use_local assigns p s b = option_map_or (λ cs. Ok (with_local assigns b s cs)) (captured_by b.local (inside b.function s) s.found.captures) (refused code.S6 p)
+abbrev pub use_local : Bool → Pos → State → Local → Outcome
+use_local assigns p s l = option_map_or (λ cs. Ok (with_local assigns l s cs)) (captured_by l.number (crossed l s) s.found.captures) (refused code.S6 p)
 
 abbrev pub with_library : State → LibName → State
 with_library s n = record s { found = with_use (means.Lib n) s.found }

@@ -4,11 +4,15 @@ use Rattle.lua_tree.specs.declared.scoped.Use.{Use}
 use Rattle.lua_tree.specs.declared.scoped.LocalInfo.{LocalInfo}
 use Rattle.lua_tree.specs.declared.scoped.Require.{Require}
 
--- a local under its name, with its number and that of the function that declares it
+-- a local by its number, and the number of the function that declares it
+pub record Local : Type 0 where
+  pub number : ℕ
+  pub function : ℕ
+
+-- a local under its name
 pub record Binding : Type 0 where
   pub name : List ℕ
-  pub local : ℕ
-  pub function : ℕ
+  pub local : Local
 
 pub record Place : Type 0 where
   -- the locals in scope, the latest first
@@ -21,10 +25,9 @@ pub record Place : Type 0 where
   -- whether the innermost function has `...`
   pub has_rest : Bool
 
--- a function and a local of an outer function that it captures
-pub record Capture : Type 0 where
-  pub function : ℕ
-  pub local : ℕ
+-- a function and a local of an outer function that it captures, by their numbers
+abbrev pub Capture : Type 0
+Capture = ℕ × ℕ
 
 -- what was found so far
 pub record Found : Type 0 where
