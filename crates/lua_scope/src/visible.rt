@@ -1,4 +1,4 @@
-ghost use Rattle.std.specs.Prelude.{◌≡◌, ◌∷◌, [], ◌-◌, length, drop, option_map, OnOk};
+ghost use Rattle.std.specs.Prelude.{◌≡◌, ◌∷◌, [], ◌-◌, length, drop, option_map, OnOk, OnErr};
 ghost use Rattle.lua_tree.specs.Scopes.Binding.{latest as latest_of};
 ghost use Rattle.lua_scope.specs.Newest.{newest_in};
 
@@ -86,9 +86,10 @@ impl<'a> Visible<'a> {
         newest(&self.latest, name)
     }
 
-    /// A local comes into scope. Without memory nothing is said of what is in scope.
+    /// A local comes into scope.
     pub fn enter(&mut self, binding: Binding<'a>) -> Result<(), NoMemory>
-        ensures { OnOk result (self.new ≡ binding_of binding.entry ∷ self.old) }
+        ensures ok { OnOk result (self.new ≡ binding_of binding.entry ∷ self.old) }
+        ensures err { OnErr result (self.new ≡ self.old) }
     {
         let shadowed = newest(&self.latest, binding.name);
         self.shown.push(Shown { binding, shadowed })?;

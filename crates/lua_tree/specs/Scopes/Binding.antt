@@ -90,13 +90,13 @@ abbrev pub captured_by : ℕ → List ℕ → List Capture → Option (List Capt
 captured_by local [] cs = Some cs
 captured_by local (f ∷ fs) cs = option_and_then (captured_by local fs) (captured (f, local) cs)
 
--- the functions of the blocks around, from the outermost to the innermost
-abbrev pub functions : State → List ℕ
-functions s = map (λ p. p.function) (reverse s.around) ++ s.place.function ∷ []
+-- the functions of a place and of the blocks around it, from the outermost to the innermost
+abbrev pub functions : Place → List Place → List ℕ
+functions place around = map (λ p. p.function) (reverse around) ++ place.function ∷ []
 
--- those that stand inside the function that declares a local, which have greater numbers
-abbrev pub crossed : Local → State → List ℕ
-crossed l s = cond (l.function == s.place.function) [] (filter (λ f. nat_lt l.function f) (functions s))
+-- those of them that stand inside the function that declares a local, which have greater numbers
+abbrev pub crossed : Local → Place → List Place → List ℕ
+crossed l place around = cond (l.function == place.function) [] (filter (λ f. nat_lt l.function f) (functions place around))
 
 -- what a use tells of the local: whether it assigns it, and whether it stands in a function inside the one that declares it
 abbrev pub told : Bool → Bool → LocalInfo → LocalInfo
@@ -119,7 +119,7 @@ with_local assigns l s cs = record s {
 
 -- a use of a local: every function between it and the declaration captures the local
 abbrev pub use_local : Bool → Pos → State → Local → Outcome
-use_local assigns p s l = option_map_or (λ cs. Ok (with_local assigns l s cs)) (captured_by l.number (crossed l s) s.found.captures) (refused code.S6 p)
+use_local assigns p s l = option_map_or (λ cs. Ok (with_local assigns l s cs)) (captured_by l.number (crossed l s.place s.around) s.found.captures) (refused code.S6 p)
 
 abbrev pub with_library : State → LibName → State
 with_library s n = record s { found = with_use (means.Lib n) s.found }
