@@ -1,5 +1,5 @@
 -- The places around a place, as the code keeps them: for each how many locals were in scope, since those that came later go out of scope before it is the place again.
-use Rattle.std.specs.Prelude.{ℕ, ◌-◌, ◌≤◌, List, [], ◌∷◌, drop, length}
+use Rattle.std.specs.Prelude.{ℕ, ◌-◌, ◌≤◌, List, [], ◌∷◌, ◌++◌, drop, length}
 use Rattle.lua_scope.specs.declared.scopes.Standing.{Standing}
 use Rattle.lua_scope.specs.declared.scopes.Outer.{Outer}
 use Rattle.lua_tree.specs.Scopes.Places.{Binding, Place}
@@ -41,6 +41,9 @@ finished s = to s.around s
 
 abbrev pub with_binding : Binding → Scopes → Scopes
 with_binding b s = record s { place = record s.place { visible = b ∷ s.place.visible } }
+
+abbrev pub with_bindings : List Binding → Scopes → Scopes
+with_bindings bs s = record s { place = record s.place { visible = bs ++ s.place.visible } }
 
 abbrev pub with_standing : Standing → Scopes → Scopes
 with_standing h s = record s { place = place_at s.place.visible h }

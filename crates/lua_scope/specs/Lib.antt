@@ -2,3 +2,5 @@ pub mod Seen
 pub mod Shown
 pub mod Newest
 pub mod Around
+pub mod Steps
+pub mod Failures

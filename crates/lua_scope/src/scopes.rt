@@ -1,4 +1,4 @@
-ghost use Rattle.std.specs.Prelude.{◌≡◌, ◌∷◌, ◌++◌, [], Some, None, map, nat_lt, filter, option_map, if◌then◌else◌, OnOk, IfOk};
+ghost use Rattle.std.specs.Prelude.{◌≡◌, ◌∷◌, ◌++◌, [], Some, None, map, reverse, nat_lt, filter, option_map, if◌then◌else◌, OnOk, IfOk};
 ghost use Rattle.lua_tree.specs.Scopes.Binding.{latest, captured_by, crossed};
 
 use crate::captures::Captures;
@@ -71,7 +71,7 @@ fn cross_all(around: &[Outer], local: Local, captures: &mut Captures) -> Result<
 
 impl<'a> Scopes<'a> {
     ghost use Rattle.lua_scope.specs.Shown.{local_of, binding_of};
-    ghost use Rattle.lua_scope.specs.Around.{place_at, standing_of, begun, finished, with_binding, with_standing};
+    ghost use Rattle.lua_scope.specs.Around.{place_at, standing_of, begun, finished, with_binding, with_bindings, with_standing};
 
     /// A place with no local in scope and no block around. It takes no memory.
     pub fn new(alloc: Global, here: Standing) -> Scopes<'a>
@@ -138,6 +138,16 @@ impl<'a> Scopes<'a> {
         ensures { OnOk result (self.new ≡ with_binding (binding_of binding.entry) self.old) }
     {
         self.visible.enter(binding)?;
+        Ok(())
+    }
+
+    /// Locals come into scope in their order. Without memory it is left open which of them are in scope.
+    pub fn enter_all(&mut self, bindings: &[Binding<'a>]) -> Result<(), NoMemory>
+        ensures { OnOk result (self.new ≡ with_bindings (map binding_of (reverse bindings.now)) self.old) }
+    {
+        for binding in bindings {
+            self.enter(*binding)?;
+        }
         Ok(())
     }
 
