@@ -4,3 +4,5 @@ pub mod Newest
 pub mod Around
 pub mod Steps
 pub mod Failures
+pub mod Answers
+pub mod Parts

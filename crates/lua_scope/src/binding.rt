@@ -7,7 +7,7 @@ ghost use Rattle.tl_base.specs.declared.refusal.Failure.TheVariants as failure;
 use crate::captures::Captures;
 use crate::scopes::{Scopes, Standing};
 use crate::visible::{Binding, Local};
-use crate::words::{Event, Word};
+use crate::words::{Event, Events, Word};
 use lua_tree::{LibName, LocalInfo, Require, Use, lib_named};
 use std::alloc::Global;
 use tl_base::{Bytes, Failure, List, Pos, Refusal, RefusalCode};
@@ -28,6 +28,14 @@ pub struct Binder<'a> {
     uses: List<Use>,
     locals: Vec<LocalInfo>,
     required: List<Require>,
+}
+
+/// The lists that are found of a module's names.
+#[derive(Drop)]
+pub struct Parts {
+    pub uses: List<Use>,
+    pub locals: List<LocalInfo>,
+    pub required: List<Require>,
 }
 
 fn refused(code: RefusalCode, pos: Pos) -> Failure
@@ -78,7 +86,33 @@ impl<'a> Binder<'a> {
     ghost use Rattle.lua_scope.specs.Shown.{local_of};
     ghost use Rattle.lua_scope.specs.Seen.{event_of};
     ghost use Rattle.lua_scope.specs.Steps.{state_of, Answers};
-    ghost use Rattle.lua_tree.specs.Scopes.Binding.{step, begin, begin_loop, begin_function, back_to, declared_at, appeared, use_local, use_library, use_library_field, with_library, assign_library_field, call_library};
+    ghost use Rattle.lua_scope.specs.Parts.{parts_in};
+    ghost use Rattle.lua_tree.specs.Scopes.Resolved.{first_state};
+    ghost use Rattle.lua_tree.specs.Scopes.Binding.{run, step, begin, begin_loop, begin_function, back_to, declared_at, appeared, use_local, use_library, use_library_field, with_library, assign_library_field, call_library};
+
+    /// Nothing is found yet. The place is the module's outermost block. It takes no memory.
+    pub fn new(alloc: Global) -> Binder<'a>
+        ensures { state_of result ≡ first_state }
+    {
+        Binder {
+            alloc,
+            scopes: Scopes::new(
+                alloc,
+                Standing {
+                    alive: 0,
+                    function: 0,
+                    in_loop: false,
+                    has_rest: true,
+                },
+            ),
+            declared: Vec::new(alloc),
+            functions: 1,
+            captures: Captures::new(alloc),
+            uses: List::new(alloc),
+            locals: Vec::new(alloc),
+            required: List::new(alloc),
+        }
+    }
 
     /// A use of a local, which may assign it.
     fn use_local(&mut self, assigns: bool, pos: Pos, local: Local) -> Result<(), Failure>
@@ -286,6 +320,27 @@ impl<'a> Binder<'a> {
                     Err(refused(RefusalCode::S8, pos))
                 }
             }
+        }
+    }
+
+    /// All that is said, up to the first refusal.
+    pub fn run(&mut self, events: &Events<'a>) -> Result<(), Failure>
+        ensures { Answers (run events.now (state_of self.old)) result (state_of self.new) }
+    {
+        for event in events.as_slice() {
+            self.step(*event)?;
+        }
+        Ok(())
+    }
+
+    /// The lists that were found.
+    pub fn finish(self) -> Parts
+        ensures { result ≡ parts_in (state_of self.entry) }
+    {
+        Parts {
+            uses: self.uses,
+            locals: List::from_vec(self.locals),
+            required: self.required,
         }
     }
 }

@@ -3,7 +3,12 @@
 
 mod binding;
 mod captures;
+mod modules;
 mod scopes;
 mod visible;
 mod words;
 mod reading;
+mod resolving;
+
+pub use modules::{NamedModule, bind};
+pub use resolving::resolve;

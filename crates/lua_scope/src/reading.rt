@@ -189,7 +189,7 @@ impl<'a> Events<'a> {
 
     /// What a block says, without its scope's begin and end.
     #[cycle(events)]
-    fn block(&mut self, block: &'a Block) -> Result<(), NoMemory>
+    pub fn block(&mut self, block: &'a Block) -> Result<(), NoMemory>
         ensures { OnOk result (self.new ≡ self.old ++ block_of block.now) }
     {
         for stat in block.stats.as_slice() {
