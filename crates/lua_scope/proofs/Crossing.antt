@@ -61,10 +61,10 @@ stopped n p xs i cs before =
 pub functions_seen : (visible : List Binding) (here : Standing) (os : List Outer) → functions (place_at visible here) (unwound visible (reverse os)) ≡ map (λ o. o.standing.function) os ++ here.function ∷ []
 functions_seen visible here os =
     ap (λ fs. fs ++ here.function ∷ [])
-      (map-reverse (λ p. p.function) (unwound visible (reverse os))
-      ∙ ap reverse (functions_unwound visible (reverse os))
-      ∙ sym (map-reverse (λ o. o.standing.function) (reverse os))
-      ∙ ap functions_in (reverse-reverse os))
+    (map-reverse (λ p. p.function) (unwound visible (reverse os))
+    ∙ ap reverse (functions_unwound visible (reverse os))
+    ∙ sym (map-reverse (λ o. o.standing.function) (reverse os))
+    ∙ ap functions_in (reverse-reverse os))
 
 not_own : (b : Bool) (fs gs : List ℕ) → b ≡ false → cond b fs gs ≡ gs
 not_own b fs gs e = rw e

@@ -1,6 +1,6 @@
 -- The last of the locals that are declared and not visible yet.
-use Rattle.std.proofs.Common.{◌≡◌, ℕ, ◌-◌, ◌+◌, ◌<◌, ◌≤◌, List, [], ◌∷◌, ◌++◌, map, reverse, take, drop, length, length-drop, refl, ap, sym, ◌∙◌, arith, ⊎_elim, subst}
-use Rattle.std.proofs.lemmas.List.{length-reverse, take_all, take-append-drop, reverse-append, take-append-le, drop_all}
+use Rattle.std.proofs.Common.{◌≡◌, ℕ, ◌-◌, ◌≤◌, List, ◌++◌, map, reverse, take, drop, length, length-drop, ap, sym, ◌∙◌, arith, ⊎_elim}
+use Rattle.std.proofs.lemmas.List.{length-reverse, take_all, take-append-drop, reverse-append, drop_all}
 use Rattle.std.proofs.Math.Seq.{take-append_seam, drop-append_seam}
 use Rattle.std.proofs.lemmas.Bool.{cases_lt}
 use Rattle.std.specs.List.{take-map, drop-map}
@@ -20,18 +20,18 @@ module _ {A : Type 0} where
   pub last_taken : (n m : ℕ) (xs : List A) → m ≡ length xs - n → take n (reverse xs) ≡ reverse (drop m xs)
   last_taken n m xs e = ⊎_elim
       (λ more.
-        let zero : m ≡ 0 = omega arith in
-        let short : length (reverse xs) ≤ n = omega (arith, length-reverse xs) in
-        take_all n (reverse xs) short ∙ sym (ap (λ k. reverse (drop k xs)) zero))
+      let zero : m ≡ 0 = omega arith in
+      let short : length (reverse xs) ≤ n = omega (arith, length-reverse xs) in
+      take_all n (reverse xs) short ∙ sym (ap (λ k. reverse (drop k xs)) zero))
       (λ fewer. let long : length (reverse (drop m xs)) ≡ n = length-reverse (drop m xs) ∙ length-drop m xs ∙ omega arith in ap (take n) (parts m xs) ∙ taken n (reverse (drop m xs)) (reverse (take m xs)) long)
       (cases_lt (length xs) n)
 
   pub last_dropped : (n m : ℕ) (xs : List A) → m ≡ length xs - n → drop n (reverse xs) ≡ reverse (take m xs)
   last_dropped n m xs e = ⊎_elim
       (λ more.
-        let zero : m ≡ 0 = omega arith in
-        let short : length (reverse xs) ≤ n = omega (arith, length-reverse xs) in
-        drop_all n (reverse xs) short ∙ sym (ap (λ k. reverse (take k xs)) zero))
+      let zero : m ≡ 0 = omega arith in
+      let short : length (reverse xs) ≤ n = omega (arith, length-reverse xs) in
+      drop_all n (reverse xs) short ∙ sym (ap (λ k. reverse (take k xs)) zero))
       (λ fewer. let long : length (reverse (drop m xs)) ≡ n = length-reverse (drop m xs) ∙ length-drop m xs ∙ omega arith in ap (drop n) (parts m xs) ∙ dropped n (reverse (drop m xs)) (reverse (take m xs)) long)
       (cases_lt (length xs) n)
 

@@ -2,3 +2,4 @@ pub mod Names
 pub mod Places
 pub mod Crossing
 pub mod Declared
+pub mod Required

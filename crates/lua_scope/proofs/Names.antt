@@ -10,7 +10,7 @@ use Rattle.std.proofs.lemmas.Map.Text.{hash_map_updates_str}
 use Rattle.std.proofs.lemmas.List.{reverse-append, drop-drop}
 use Rattle.lua_scope.specs.declared.visible.Local.{Local}
 use Rattle.lua_scope.specs.declared.visible.Shown.{Shown}
-use Rattle.lua_scope.specs.Shown.{local_of, binding_of, found, Hides, bindings}
+use Rattle.lua_scope.specs.Shown.{local_of, binding_of, found, Hides}
 use Rattle.lua_tree.specs.Scopes.Places as places
 use Rattle.lua_tree.specs.Scopes.Binding.{latest}
 
@@ -54,8 +54,8 @@ left f g xs s hides h e name =
     let hidden = hides_fewer xs s hides in
     ap (option_and_then (λ l. l)) (e name)
     ∙ before (bytes_eq s.binding.name.now name) s.shadowed s (f name) (find (λ x. bytes_eq x.binding.name.now name) (reverse xs))
-        (λ same. hidden.0 ∙ ap (λ n. found n (reverse xs)) (same_text s.binding.name.now name (sym same)))
-        (h name ∙ ap (found name) (reverse-append xs (s ∷ [])))
+    (λ same. hidden.0 ∙ ap (λ n. found n (reverse xs)) (same_text s.binding.name.now name (sym same)))
+    (h name ∙ ap (found name) (reverse-append xs (s ∷ [])))
 
 there : (xs : List Shown) (s : Shown) (b : Bool) → b ≡ true → option_map (λ x. x.binding.local) (cond b (Some s) (find (λ x. bytes_eq x.binding.name.now s.binding.name.now) xs)) ≡ Some s.binding.local
 there xs s true e = refl
@@ -66,7 +66,7 @@ pub is_there : (f : List ℕ → Option (Option Local)) (xs : List Shown) (s : S
 is_there f xs s h none =
     let has : None ≡ found s.binding.name.now (reverse (xs ++ s ∷ [])) = sym (ap (option_and_then (λ l. l)) none) ∙ h s.binding.name.now in
     let one : found s.binding.name.now (reverse (xs ++ s ∷ [])) ≡ Some s.binding.local =
-        ap (found s.binding.name.now) (reverse-append xs (s ∷ [])) ∙ there (reverse xs) s (bytes_eq s.binding.name.now s.binding.name.now) (nat_list_eq_equiv.refl s.binding.name.now) in
+    ap (found s.binding.name.now) (reverse-append xs (s ∷ [])) ∙ there (reverse xs) s (bytes_eq s.binding.name.now s.binding.name.now) (nat_list_eq_equiv.refl s.binding.name.now) in
     cc
 
 module _ {S : Type 0} (m n : HashMap (Bor (List ℕ)) (Option Local) S) where

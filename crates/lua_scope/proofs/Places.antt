@@ -1,5 +1,5 @@
 -- The places around, as more locals come into scope.
-use Rattle.std.proofs.Common.{◌≡◌, ℕ, suc, ◌-◌, ◌+◌, ◌≤◌, List, [], ◌∷◌, drop, length, refl, ap, ◌∙◌, arith, subst, sym}
+use Rattle.std.proofs.Common.{◌≡◌, ℕ, suc, ◌-◌, ◌≤◌, List, [], ◌∷◌, drop, length, refl, ap, ◌∙◌, arith}
 use Rattle.lua_scope.specs.declared.scopes.Outer.{Outer}
 use Rattle.lua_scope.specs.declared.scopes.Standing.{Standing}
 use Rattle.lua_scope.specs.Around.{Scopes, place_at, first, unwound, Fits, with_binding}

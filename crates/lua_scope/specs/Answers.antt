@@ -1,5 +1,5 @@
 -- What the answers of `resolve` and `bind` say.
-use Rattle.std.specs.Prelude.{◌≡◌, ℕ, List, map, find, option_map, is_none, Option, Result, Ok, Err}
+use Rattle.std.specs.Prelude.{◌≡◌, ℕ, List, map, find, option_map, is_none, Option, Result, Err}
 use Rattle.std.specs.Str.{bytes_eq}
 use Rattle.tl_base.specs.declared.refusal.Refusal.{Refusal}
 use Rattle.tl_base.specs.declared.refusal.RefusalCode.TheVariants as code

@@ -1,5 +1,4 @@
 -- The words of the code as the definition has them.
-use Rattle.std.specs.Prelude.{ℕ, List}
 use Rattle.lua_scope.specs.declared.words.Word as code_word
 use Rattle.lua_scope.specs.declared.words.Event as code_event
 use Rattle.lua_scope.specs.declared.words.Event.TheVariants as e

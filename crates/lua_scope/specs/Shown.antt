@@ -1,5 +1,5 @@
 -- The locals in scope as the code keeps them: the latest local of each name in a map, and with each local the one of its name before it.
-use Rattle.std.specs.Prelude.{◌≡◌, ℕ, Bool, List, [], ◌∷◌, map, reverse, find, option_map, Option, Some, None}
+use Rattle.std.specs.Prelude.{◌≡◌, ℕ, List, [], ◌∷◌, map, reverse, find, option_map, Option}
 use Rattle.std.specs.Str.{bytes_eq}
 use Rattle.lua_scope.specs.Newest.{newest_in}
 use Rattle.lua_scope.specs.declared.visible.Local.{Local}

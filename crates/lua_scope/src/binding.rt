@@ -178,19 +178,23 @@ impl<'a> Binder<'a> {
         let Ok(number) = u32::try_from(self.locals.len()) else {
             return Err(Failure::NoMemory);
         };
-        self.declared.push(Binding {
-            name: name.text,
-            local: Local {
-                number,
+        self.declared
+            .push(Binding {
+                name: name.text,
+                local: Local {
+                    number,
+                    function: here.function,
+                },
+            })
+            .map_err(|_| Failure::NoMemory)?;
+        self.locals
+            .push(LocalInfo {
                 function: here.function,
-            },
-        }).map_err(|_| Failure::NoMemory)?;
-        self.locals.push(LocalInfo {
-            function: here.function,
-            captured: false,
-            assigned: false,
-            assigned_in_closure: false,
-        }).map_err(|_| Failure::NoMemory)?;
+                captured: false,
+                assigned: false,
+                assigned_in_closure: false,
+            })
+            .map_err(|_| Failure::NoMemory)?;
         here.alive += 1;
         self.scopes.set(here);
         Ok(())

@@ -4,11 +4,11 @@
 mod binding;
 mod captures;
 mod modules;
+mod reading;
+mod resolving;
 mod scopes;
 mod visible;
 mod words;
-mod reading;
-mod resolving;
 
 pub use modules::{NamedModule, bind};
 pub use resolving::resolve;

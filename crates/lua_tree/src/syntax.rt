@@ -1,4 +1,4 @@
-use crate::{Name, Typed, TypeExpr, TypeField, TypeResults};
+use crate::{Name, TypeExpr, TypeField, TypeResults, Typed};
 use tl_base::{Boxed, Bytes, CrossKind, List, ModuleKind, Pos};
 
 /// An operator before its operand.

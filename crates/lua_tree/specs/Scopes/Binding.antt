@@ -37,7 +37,8 @@ begin_loop s = begin (record s.place { in_loop = true }) s
 abbrev pub begin_function : Bool → State → State
 begin_function has_rest s =
     record (begin (record { visible = s.place.visible; alive = 0; function = s.found.functions; in_loop = false; has_rest = has_rest }) s) {
-      found = record s.found { functions = s.found.functions + 1 } }
+      found = record s.found { functions = s.found.functions + 1 };
+    }
 
 -- after a scope's end the text stands where the scope began
 abbrev pub back_to : List Place → State → State
@@ -49,10 +50,10 @@ back_to (p ∷ ps) s = record s { place = p; around = ps }
 -- a local is numbered where it is declared
 abbrev pub declared_local : List ℕ → State → State
 declared_local name s = record s {
-    place = record s.place { alive = s.place.alive + 1 };
-    declared = record { name = name; local = record { number = length s.found.locals; function = s.place.function } } ∷ s.declared;
-    found = record s.found { locals = s.found.locals ++ record { function = s.place.function; captured = false; assigned = false; assigned_in_closure = false } ∷ [] };
-  }
+  place = record s.place { alive = s.place.alive + 1 };
+  declared = record { name = name; local = record { number = length s.found.locals; function = s.place.function } } ∷ s.declared;
+  found = record s.found { locals = s.found.locals ++ record { function = s.place.function; captured = false; assigned = false; assigned_in_closure = false } ∷ [] };
+}
 
 -- at most 200 locals of one function are alive at once
 abbrev pub declared_at : Pos → List ℕ → State → Outcome
@@ -60,9 +61,9 @@ declared_at p name s = cond (nat_lt s.place.alive 200) (Ok (declared_local name 
 
 abbrev pub appeared : ℕ → State → State
 appeared n s = record s {
-    place = record s.place { visible = take n s.declared ++ s.place.visible };
-    declared = drop n s.declared;
-  }
+  place = record s.place { visible = take n s.declared ++ s.place.visible };
+  declared = drop n s.declared;
+}
 
 -- ---- uses
 
@@ -101,21 +102,21 @@ crossed l place around = cond (l.function == place.function) [] (filter (λ f. n
 -- what a use tells of the local: whether it assigns it, and whether it stands in a function inside the one that declares it
 abbrev pub told : Bool → Bool → LocalInfo → LocalInfo
 told assigns inner i = record i {
-    captured = i.captured || inner;
-    assigned = i.assigned || assigns;
-    assigned_in_closure = i.assigned_in_closure || (assigns && inner);
-  }
+  captured = i.captured || inner;
+  assigned = i.assigned || assigns;
+  assigned_in_closure = i.assigned_in_closure || (assigns && inner);
+}
 
 abbrev pub told_of : ℕ → (LocalInfo → LocalInfo) → List LocalInfo → List LocalInfo
 told_of local f locals = option_map_or (λ i. slice_set locals local (f i)) (slice_get locals local) locals
 
 abbrev pub with_local : Bool → Local → State → List Capture → State
 with_local assigns l s cs = record s {
-    found = record (with_use (means.Local l.number) s.found) {
-      captures = cs;
-      locals = told_of l.number (told assigns (not (l.function == s.place.function))) s.found.locals;
-    };
-  }
+  found = record (with_use (means.Local l.number) s.found) {
+    captures = cs;
+    locals = told_of l.number (told assigns (not (l.function == s.place.function))) s.found.locals;
+  };
+}
 
 -- a use of a local: every function between it and the declaration captures the local
 abbrev pub use_local : Bool → Pos → State → Local → Outcome
@@ -146,8 +147,8 @@ assign_library_field p name key_place key s =
 -- `require` with a literal string asks for the module of that name
 abbrev pub with_require : Pos → List ℕ → State → State
 with_require p name s = record s {
-    found = record (with_use (means.Lib lib.Require) s.found) { required = s.found.required ++ record { pos = p; name = name; «module» = None } ∷ [] };
-  }
+  found = record (with_use (means.Lib lib.Require) s.found) { required = s.found.required ++ record { pos = p; name = name; «module» = None } ∷ [] };
+}
 
 abbrev pub call_library : Pos → List ℕ → Pos → List ℕ → State → Outcome
 call_library p name text_place text s = cond (bytes_eq name (codes "require")) (Ok (with_require text_place text s)) (use_library p name s)

@@ -14,11 +14,11 @@ first_place = record { visible = []; alive = 0; function = 0; in_loop = false; h
 
 abbrev pub first_state : State
 first_state = record {
-    place = first_place;
-    around = [];
-    declared = [];
-    found = record { functions = 1; captures = []; uses = []; locals = []; required = [] };
-  }
+  place = first_place;
+  around = [];
+  declared = [];
+  found = record { functions = 1; captures = []; uses = []; locals = []; required = [] };
+}
 
 abbrev pub bound : Chunk → Outcome → Result Scoped Refusal
 bound chunk (Ok s) = Ok (record { chunk = chunk; uses = s.found.uses; locals = s.found.locals; required = s.found.required })

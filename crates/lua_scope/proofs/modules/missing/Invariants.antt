@@ -1,5 +1,5 @@
 use Rattle.std.proofs.Common.{◌≡◌, drop}
-use Rattle.lua_scope.specs.Answers.{module_named, first_missing}
+use Rattle.lua_scope.specs.Answers.{first_missing}
 use Rattle.lua_scope.proofs.modules.missing.Given as goal
 
 abbrev pub invariant-loop-require : goal.invariant-loop-require

@@ -1,5 +1,5 @@
 use Rattle.std.proofs.Common.{◌≡◌, drop}
-use Rattle.lua_scope.specs.Answers.{module_named, first_missing}
+use Rattle.lua_scope.specs.Answers.{module_named}
 use Rattle.lua_scope.proofs.modules.number_of.Given as goal
 
 abbrev pub invariant-loop-named : goal.invariant-loop-named

@@ -1,4 +1,4 @@
-use Rattle.std.proofs.Common.{◌≡◌, ◌+◌}
+use Rattle.std.proofs.Common.{◌+◌}
 use Rattle.std.specs.Prelude.{nat_lt}
 use Rattle.lua_scope.proofs.Crossing.{turn, stopped}
 use Rattle.lua_scope.proofs.scopes.cross_all.Goals as goal

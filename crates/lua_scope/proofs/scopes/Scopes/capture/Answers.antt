@@ -1,4 +1,4 @@
-use Rattle.std.proofs.Common.{◌≡◌, ◌∙◌, ap, sym}
+use Rattle.std.proofs.Common.{◌∙◌, ap, sym}
 use Rattle.lua_scope.specs.Shown.{local_of}
 use Rattle.lua_tree.specs.Scopes.Binding.{captured_by, crossed}
 use Rattle.std.proofs.lemmas.Result.{IfOk-weaker}
@@ -17,5 +17,5 @@ returns c =
     let l = local_of c.args.local in
     let before = rw (c.if-not-branch.false, c.deref.ensures.value) at c.in_ok-cross_all.ensures in
     IfOk-weaker c.cross.result _ _ (λ fits one.
-      ap (λ s. captured_by l.number (crossed l s.place s.around) c.args.captures.now) (sym c.self.view_is)
-      ∙ all_crossed l c.self.inside.visible c.self.inside.here c.self.inside.around.items c.args.captures.now c.cross_all.new.captures _ c.if-local-self.false before one) c.cross.ensures
+    ap (λ s. captured_by l.number (crossed l s.place s.around) c.args.captures.now) (sym c.self.view_is)
+    ∙ all_crossed l c.self.inside.visible c.self.inside.here c.self.inside.around.items c.args.captures.now c.cross_all.new.captures _ c.if-local-self.false before one) c.cross.ensures
