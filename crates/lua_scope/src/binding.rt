@@ -96,15 +96,7 @@ impl<'a> Binder<'a> {
     {
         Binder {
             alloc,
-            scopes: Scopes::new(
-                alloc,
-                Standing {
-                    alive: 0,
-                    function: 0,
-                    in_loop: false,
-                    has_rest: true,
-                },
-            ),
+            scopes: Scopes::new(alloc, Standing::outermost()),
             declared: Vec::new(alloc),
             functions: 1,
             captures: Captures::new(alloc),

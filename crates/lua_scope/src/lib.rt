@@ -7,6 +7,8 @@ mod modules;
 mod reading;
 mod resolving;
 mod scopes;
+#[cfg(test)]
+mod tests;
 mod visible;
 mod words;
 

@@ -296,10 +296,10 @@ impl<'a> Events<'a> {
                 self.value(condition)?;
                 self.scope(Event::Loop, block)
             }
-            Stat::Repeat(_, block, condition) => {
+            Stat::Repeat(_, block, until) => {
                 self.push(Event::Loop)?;
                 self.block(block)?;
-                self.value(condition)?;
+                self.value(until)?;
                 self.push(Event::Finish)
             }
             Stat::If(_, clauses, otherwise) => {

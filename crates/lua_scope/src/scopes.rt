@@ -1,4 +1,5 @@
 ghost use Rattle.std.specs.Prelude.{◌≡◌, ◌∷◌, ◌++◌, [], Some, None, map, reverse, nat_lt, filter, option_map, if◌then◌else◌, OnOk, IfOk};
+ghost use Rattle.lua_tree.specs.Scopes.Resolved.{first_place};
 ghost use Rattle.lua_tree.specs.Scopes.Binding.{latest, captured_by, crossed};
 
 use crate::captures::Captures;
@@ -17,6 +18,22 @@ pub struct Standing {
     pub in_loop: bool,
     /// whether the innermost function has `...`
     pub has_rest: bool,
+}
+
+impl Standing {
+    ghost use Rattle.lua_scope.specs.Around.{standing_of};
+
+    /// The beginning of a module: its outermost block is function 0, which has `...`.
+    pub fn outermost() -> Standing
+        ensures { result ≡ standing_of first_place }
+    {
+        Standing {
+            alive: 0,
+            function: 0,
+            in_loop: false,
+            has_rest: true,
+        }
+    }
 }
 
 /// The place where a block around begins, and how many locals are in scope there.
