@@ -1,3 +1,4 @@
 pub mod Heights
 pub mod Library
+pub mod Named
 pub mod Views

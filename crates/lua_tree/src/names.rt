@@ -1,6 +1,7 @@
 ghost use Rattle.std.specs.Prelude.{◌≡◌, ◌≢◌, ◌↔◌, length, IsTrue, IfSome, IsNone, IfOk};
 ghost use Rattle.lua_tree.specs.Names.{number, spelling, text_of, dotted, place_of, AreRight, IsListed};
 ghost use Rattle.lua_tree.specs.declared.names.LibName.{LibName};
+ghost use Rattle.lua_tree.specs.Scopes.Library.{named};
 
 use std::alloc::Global;
 use tl_base::{Bytes, NoMemory};
@@ -147,6 +148,7 @@ fn library() -> &'static [Entry]
 pub fn lib_named(table: &[u8], name: &[u8]) -> Option<LibName>
     ensures found { IfSome result (λ n. spelling n ≡ Some (table.now, name.now)) }
     ensures missing { IsNone result → (n : LibName) → spelling n ≢ Some (table.now, name.now) }
+    ensures is { result ≡ named table.now name.now }
 {
     let entries = library();
     for entry in entries {

@@ -24,6 +24,11 @@ impl<T> Model for List<T> {
 }
 
 impl<T> List<T> {
+    ghost use Rattle.std.specs.Prelude.{◌≡◌, [], ◌<◌, length, slice_get, ◌↔◌, IsTrue, OnSome};
+    ghost use Rattle.std.specs.Option.{option_copied};
+    ghost use Rattle.std.specs.Borrow.{sem};
+    ghost use Rattle.tl_base.specs.Lending.{LendsElements};
+
     /// The empty list, which takes no memory until something is pushed.
     pub fn new(alloc: Global) -> List<T>
         ensures { result ≡ [] }
@@ -53,6 +58,14 @@ impl<T> List<T> {
         ensures { result.now ≡ self.now }
     {
         self.items.as_slice()
+    }
+
+    /// The elements, lent for writing.
+    pub fn as_mut_slice(&mut self) -> &mut [T]
+        ensures* writes_back { sem 𝓛 (LendsElements T.row self.entry result) }
+        ensures value { result.now ≡ self.old }
+    {
+        self.items.as_mut_slice()
     }
 
     /// How many elements there are.

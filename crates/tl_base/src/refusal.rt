@@ -21,6 +21,24 @@ pub enum RefusalCode {
     L4,
     /// a file longer than 1048576 bytes
     L5,
+    /// a name that is neither a local nor a name of the library
+    S1,
+    /// an assignment to a name of the library
+    S2,
+    /// a table of the library other than before `.name`
+    S3,
+    /// `require` other than called with one literal string
+    S4,
+    /// more than 200 locals alive in one function
+    S5,
+    /// more than 255 locals of outer functions captured by one function
+    S6,
+    /// `break` outside a loop
+    S7,
+    /// `...` in a function without `...`
+    S8,
+    /// a call of `require` for a module that isn't given
+    G1,
     /// a value that doesn't flow to its place
     F1,
     /// an operand that the operation doesn't take
@@ -42,6 +60,15 @@ impl RefusalCode {
             RefusalCode::L3 => "L3",
             RefusalCode::L4 => "L4",
             RefusalCode::L5 => "L5",
+            RefusalCode::S1 => "S1",
+            RefusalCode::S2 => "S2",
+            RefusalCode::S3 => "S3",
+            RefusalCode::S4 => "S4",
+            RefusalCode::S5 => "S5",
+            RefusalCode::S6 => "S6",
+            RefusalCode::S7 => "S7",
+            RefusalCode::S8 => "S8",
+            RefusalCode::G1 => "G1",
             RefusalCode::F1 => "F1",
             RefusalCode::F2 => "F2",
             RefusalCode::F14 => "F14",

@@ -1,0 +1,5 @@
+pub mod Names
+pub mod Places
+pub mod Crossing
+pub mod Declared
+pub mod Required
