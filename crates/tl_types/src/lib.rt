@@ -1,13 +1,14 @@
-//! The types of typed modules, their general forms and the two orders between them: so far the types without components.
+//! The types of typed modules: unions, general forms, positions of tuples, sizes, and the two orders as definitions.
 #![tactic(auto)]
 
-mod order;
-#[cfg(test)]
-mod tests;
+mod copies;
+mod flow;
+mod sizes;
 mod text;
 mod types;
 
-pub use order::Flow;
+pub use flow::Flow;
+pub use sizes::{depth, size};
 pub use text::Text;
 use tl_base::{Bytes, NoMemory};
-pub use types::Ty;
+pub use types::{Field, FieldOf, Func, FuncOf, Interfaces, Results, ResultsOf, Ty, TyError, Tuple, TupleOf};
