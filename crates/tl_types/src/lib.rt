@@ -3,11 +3,13 @@
 
 mod copies;
 mod flow;
+mod equality;
 mod sizes;
 mod text;
 mod types;
 
 pub use flow::Flow;
+pub use equality::same;
 pub use sizes::{depth, size};
 pub use text::Text;
 use tl_base::{Bytes, NoMemory};
