@@ -1,6 +1,6 @@
 -- The test for the same tree holds exactly of equal types.
 use Rattle.std.proofs.Common.{◌≡◌, ℕ, Bool, true, false, ◌&&◌, not, List, [], ◌∷◌, refl, sym, ap, ◌∙◌, map, ◌↔◌, subst}
-use Rattle.std.specs.Prelude.{bytes_eq, nat_eq}
+use Rattle.std.specs.Prelude.{bytes_eq, nat_eq, IsTrue}
 use Rattle.std.specs.Ordering.{int_eq}
 use Rattle.std.proofs.lemmas.Bool.{and_parts, and_from, false≢true, eqb-true, eq-eqb}
 use Rattle.std.proofs.lemmas.Bool.Decides.{Decides-int_eq}
@@ -162,3 +162,13 @@ same_self t = ind-Ty (λ t. same_type t t ≡ true) (λ x y is.
 -- the test, and equality
 pub same_decides : (s t : Ty) → (same_type s t ≡ true) ↔ (s ≡ t)
 same_decides s t = (same_right s t, λ e. subst (λ u. same_type s u ≡ true) e (same_self s))
+
+same_cases : (r q : Bool) (P : Type 0) → (IsTrue r ↔ P) → ((q ≡ true) ↔ P) → r ≡ q
+same_cases true true P rs qs = refl
+same_cases false false P rs qs = refl
+same_cases true false P rs qs = sym (qs.1 (rs.0 refl))
+same_cases false true P rs qs = rs.1 (qs.0 refl)
+
+-- what answers whether two types are equal answers as the test does
+pub same_answer : (s t : Ty) (r : Bool) → (IsTrue r ↔ (s ≡ t)) → r ≡ same_type s t
+same_answer s t r says = same_cases r (same_type s t) (s ≡ t) says (same_decides s t)

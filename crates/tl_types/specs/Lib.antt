@@ -4,3 +4,4 @@ pub mod Unions
 pub mod Sizes
 pub mod Below
 pub mod Parts
+pub mod Adding

@@ -38,14 +38,14 @@ is_int t = is_int_form (out-Ty t)
 abbrev pub is_str : Ty → Bool
 is_str t = is_str_form (out-Ty t)
 
--- a literal whose base type stands among the types
-abbrev pub is_covered_form : List Ty → Ty-F Ty → Bool
-is_covered_form ts (IntLit n) = list_any is_int ts
-is_covered_form ts (StrLit s) = list_any is_str ts
-is_covered_form ts x = false
+-- a literal is left out where its base type stands among the types
+abbrev pub is_covered_form : Bool → Bool → Ty-F Ty → Bool
+is_covered_form with_int with_str (IntLit n) = with_int
+is_covered_form with_int with_str (StrLit s) = with_str
+is_covered_form with_int with_str x = false
 
 abbrev pub is_covered : List Ty → Ty → Bool
-is_covered ts t = is_covered_form ts (out-Ty t)
+is_covered ts t = is_covered_form (list_any is_int ts) (list_any is_str ts) (out-Ty t)
 
 -- each type once, at the first one's place
 abbrev pub distinct : List Ty → List Ty

@@ -1,6 +1,6 @@
 ghost use Rattle.std.specs.Prelude.{◌≡◌, IfOk};
 
-use crate::{Field, Func, NoMemory, Ty, Tuple};
+use crate::{Field, Func, NoMemory, Tuple, Ty};
 use std::alloc::Global;
 use tl_base::{Boxed, List};
 

@@ -1,6 +1,6 @@
 ghost use Rattle.std.specs.Prelude.{◌≡◌, ◌↔◌, IsTrue};
 
-use crate::{Field, Func, Ty, Tuple};
+use crate::{Field, Func, Tuple, Ty};
 
 /// Whether two types are the same tree, with interfaces compared by their numbers.
 #[cycle(equality)]
@@ -49,7 +49,10 @@ fn same_fields(fs: &[Field], gs: &[Field]) -> bool
         return false;
     }
     for (f, g) in fs.iter().zip(gs) {
-        if f.name.as_slice() != g.name.as_slice() || f.is_const != g.is_const || !same(&f.ty, &g.ty) {
+        if f.name.as_slice() != g.name.as_slice()
+            || f.is_const != g.is_const
+            || !same(&f.ty, &g.ty)
+        {
             return false;
         }
     }
@@ -82,5 +85,6 @@ fn same_tuples(ps: &[Tuple], qs: &[Tuple]) -> bool
 fn same_funcs(f: &Func, g: &Func) -> bool
     ensures { IsTrue result ↔ (f.now ≡ g.now) }
 {
-    same_tuple(&f.params, &g.params) && same_tuples(f.results.tuples.as_slice(), g.results.tuples.as_slice())
+    same_tuple(&f.params, &g.params)
+        && same_tuples(f.results.tuples.as_slice(), g.results.tuples.as_slice())
 }

@@ -2,15 +2,19 @@
 #![tactic(auto)]
 
 mod copies;
-mod flow;
 mod equality;
+mod flow;
 mod sizes;
 mod text;
 mod types;
+mod unions;
 
-pub use flow::Flow;
 pub use equality::same;
+pub use flow::Flow;
 pub use sizes::{depth, size};
 pub use text::Text;
 use tl_base::{Bytes, NoMemory};
-pub use types::{Field, FieldOf, Func, FuncOf, Interfaces, Results, ResultsOf, Ty, TyError, Tuple, TupleOf};
+pub use types::{
+    Field, FieldOf, Func, FuncOf, Interfaces, Results, ResultsOf, Tuple, TupleOf, Ty, TyError,
+};
+pub use unions::{boolean, general, position, union_of};

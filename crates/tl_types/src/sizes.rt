@@ -2,7 +2,7 @@ ghost use Rattle.std.specs.Prelude.{◌≡◌, ◌+◌, ◌-◌, ◌^◌, min, m
 ghost use Rattle.tl_types.specs.Sizes.{type_size, type_depth};
 ghost use Rattle.tl_types.specs.Parts.{size_tuple, size_func, depth_tuple, depth_func, deepest};
 
-use crate::{Field, Func, Ty, Tuple};
+use crate::{Field, Func, Tuple, Ty};
 
 /// How many nodes there are, and how deep the deepest goes. Both stand still at their type's greatest.
 #[derive(Clone, Copy)]

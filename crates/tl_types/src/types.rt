@@ -1,4 +1,8 @@
-use crate::Text;
+ghost use Rattle.std.specs.Prelude.{◌≡◌};
+ghost use Rattle.tl_types.specs.declared.types.TyError.TheVariants as ty_error;
+
+use crate::{NoMemory, Text};
+use std::alloc::{AllocError, AllocFailed};
 use tl_base::{Boxed, List};
 
 /// A field over any type of types, so that `Ty` alone leads back to itself.
@@ -59,8 +63,11 @@ pub enum Ty {
 }
 
 pub type Field = FieldOf<Ty>;
+
 pub type Tuple = TupleOf<Ty>;
+
 pub type Results = ResultsOf<Ty>;
+
 pub type Func = FuncOf<Ty>;
 
 /// The record that each interface stands for, by its number.
@@ -75,4 +82,28 @@ pub enum TyError {
     /// it would have more than 65536 nodes or a depth above 100
     TooLarge,
     NoMemory,
+}
+
+impl From<NoMemory> for TyError {
+    ghost from_gives = { λ _ error. error ≡ ty_error.NoMemory };
+
+    fn from(_error: NoMemory) -> TyError {
+        TyError::NoMemory
+    }
+}
+
+impl From<AllocError> for TyError {
+    ghost from_gives = { λ _ error. error ≡ ty_error.NoMemory };
+
+    fn from(_error: AllocError) -> TyError {
+        TyError::NoMemory
+    }
+}
+
+impl<T: Drop> From<AllocFailed<T>> for TyError {
+    ghost from_gives = { λ _ error. error ≡ ty_error.NoMemory };
+
+    fn from(_error: AllocFailed<T>) -> TyError {
+        TyError::NoMemory
+    }
 }

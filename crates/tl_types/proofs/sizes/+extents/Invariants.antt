@@ -24,18 +24,18 @@ decreases-of_func l = 8 * size_func l.func.now + 4
 
 abbrev pub invariant-of_types-loop-ty : goal.invariant-of_types-loop-ty
 invariant-of_types-loop-ty l = record {
-    nodes : l.all.nodes ≡ min (sum_by type_size (take l.ty-index l.types)) (2 ^ 64 - 1);
-    depth : l.all.depth ≡ min (deepest type_depth (take l.ty-index l.types)) (2 ^ 64 - 1)
-  }
+  nodes : l.all.nodes ≡ min (sum_by type_size (take l.ty-index l.types)) (2 ^ 64 - 1);
+  depth : l.all.depth ≡ min (deepest type_depth (take l.ty-index l.types)) (2 ^ 64 - 1);
+}
 
 abbrev pub invariant-of_fields-loop-field : goal.invariant-of_fields-loop-field
 invariant-of_fields-loop-field l = record {
-    nodes : l.all.nodes ≡ min (sum_by (λ f. type_size f.ty) (take l.field-index l.fields)) (2 ^ 64 - 1);
-    depth : l.all.depth ≡ min (deepest (λ f. type_depth f.ty) (take l.field-index l.fields)) (2 ^ 64 - 1)
-  }
+  nodes : l.all.nodes ≡ min (sum_by (λ f. type_size f.ty) (take l.field-index l.fields)) (2 ^ 64 - 1);
+  depth : l.all.depth ≡ min (deepest (λ f. type_depth f.ty) (take l.field-index l.fields)) (2 ^ 64 - 1);
+}
 
 abbrev pub invariant-of_tuples-loop-tuple : goal.invariant-of_tuples-loop-tuple
 invariant-of_tuples-loop-tuple l = record {
-    nodes : l.all.nodes ≡ min (sum_by size_tuple (take l.tuple-index l.tuples)) (2 ^ 64 - 1);
-    depth : l.all.depth ≡ min (deepest depth_tuple (take l.tuple-index l.tuples)) (2 ^ 64 - 1)
-  }
+  nodes : l.all.nodes ≡ min (sum_by size_tuple (take l.tuple-index l.tuples)) (2 ^ 64 - 1);
+  depth : l.all.depth ≡ min (deepest depth_tuple (take l.tuple-index l.tuples)) (2 ^ 64 - 1);
+}
