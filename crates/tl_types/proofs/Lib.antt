@@ -4,3 +4,7 @@ pub mod Measures
 pub mod Gathered
 pub mod Distinct
 pub mod Places
+pub mod Bools
+pub mod Mono
+pub mod Reflexive
+pub mod Transitive

@@ -20,17 +20,19 @@ Test = Ty → Ty → Bool
 abbrev pub field_below : Test → Field → Field → Bool
 field_below R f g = R f.ty g.ty && (g.is_const || (not f.is_const && R g.ty f.ty))
 
-abbrev pub has_below : Test → Option Field → Field → Bool
-has_below R None g = false
-has_below R (Some f) g = field_below R f g
+-- where the right has a field, the left has it too
+abbrev pub has_below : Test → Option Field → Option Field → Bool
+has_below R f None = true
+has_below R None (Some g) = false
+has_below R (Some f) (Some g) = field_below R f g
 
--- the first field of the name
+-- the field of a name, which is the first one of that name
 abbrev pub named : List ℕ → List Field → Option Field
 named name fs = find (λ f. bytes_eq f.name name) fs
 
 -- for each field on the right, the left has it
 abbrev pub record_below : Test → List Field → List Field → Bool
-record_below R fs gs = list_all (λ g. has_below R (named g.name fs) g) gs
+record_below R fs gs = list_all (λ g. has_below R (named g.name fs) (named g.name gs)) gs
 
 -- the first n places of the one tuple are below those of the other
 abbrev pub places_below : Test → TupleOf Ty → TupleOf Ty → ℕ → Bool
