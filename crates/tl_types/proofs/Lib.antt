@@ -6,5 +6,9 @@ pub mod Distinct
 pub mod Places
 pub mod Bools
 pub mod Mono
+pub mod Lists
+pub mod Layers
 pub mod Reflexive
 pub mod Transitive
+pub mod Parts
+pub mod InCases

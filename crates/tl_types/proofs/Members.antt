@@ -9,6 +9,7 @@ use Rattle.tl_types.specs.declared.types.Ty.TheOpen.{Ty-F, Nil, True, False, Int
 use Rattle.tl_types.specs.declared.types.Ty.TheBlock.{hidden-the_row-Ty-0}
 use Rattle.tl_types.specs.declared.types.Ty.TheVariants as ty
 use Rattle.tl_types.specs.Types.{members, row_members}
+use Rattle.tl_types.specs.Cases.{IsNoUnion}
 use Rattle.tl_types.proofs.Alike.{roll_out, out_roll}
 
 pub out_of : (t : Ty) (x : Ty-F Ty) → roll-Ty x ≡ t → out-Ty t ≡ x
@@ -49,8 +50,8 @@ members_union t ms is = members_is t ∙ ap (form_members t) (out_of t (Union ms
 
 -- a type that is no union is its own one member
 
-abbrev pub IsNoUnion : Ty → Type 0
-IsNoUnion t = (ms : List Ty) → t ≡ ty.Union ms → ⊥
+
+
 
 one_member : (t : Ty) (x : Ty-F Ty) → out-Ty t ≡ x → IsNoUnion t → form_members t x ≡ t ∷ []
 one_member t (Union ms) e no_union = absurd (no_union ms (sym (roll_out t) ∙ (ap roll-Ty e ∙ ty.rolls-Union ms)))

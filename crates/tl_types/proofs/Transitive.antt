@@ -47,7 +47,7 @@ named_one name f fs g true same e rest =
 named_one name f fs g false same e rest = rest (sym (ap (λ b. cond b (Some f) (named name fs)) same) ∙ e)
 
 -- the field of a name has that name, and is the field of its own name
-named_at : (name : List ℕ) (gs : List Field) (g : Field) → named name gs ≡ Some g → g.name ≡ name
+pub named_at : (name : List ℕ) (gs : List Field) (g : Field) → named name gs ≡ Some g → g.name ≡ name
 named_at name [] g e = absurd (cc)
 named_at name (f ∷ fs) g e = named_one name f fs g (bytes_eq f.name name) refl e (named_at name fs g)
 
@@ -56,7 +56,7 @@ all_named_one claim name f fs g true same e here rest = subst (λ n. claim n ≡
 all_named_one claim name f fs g false same e here rest = rest (sym (ap (λ b. cond b (Some f) (named name fs)) same) ∙ e)
 
 -- what holds of each field holds of the field of a name
-all_named : (claim : List ℕ → Bool) (name : List ℕ) (gs : List Field) (g : Field) → named name gs ≡ Some g → list_all (λ h. claim h.name) gs ≡ true → claim name ≡ true
+pub all_named : (claim : List ℕ → Bool) (name : List ℕ) (gs : List Field) (g : Field) → named name gs ≡ Some g → list_all (λ h. claim h.name) gs ≡ true → claim name ≡ true
 all_named claim name [] g e all = absurd (cc)
 all_named claim name (f ∷ fs) g e all = all_named_one claim name f fs g (bytes_eq f.name name) refl e (and_parts (claim f.name) (list_all (λ h. claim h.name) fs) all).0 (λ rest. all_named claim name fs g rest (and_parts (claim f.name) (list_all (λ h. claim h.name) fs) all).1)
 

@@ -5,3 +5,4 @@ pub mod Sizes
 pub mod Below
 pub mod Parts
 pub mod Adding
+pub mod Cases
