@@ -35,6 +35,10 @@ contained_map : {S X : Type 0} (f : S → X) (ss : List S) (x : X) → Contains 
 contained_map f [] x c = absurd (omega (arith, c.1))
 contained_map f (s ∷ ss) x c = contained_at f s ss x (contained_map f ss x) c.0 c.1 c.2
 
+pub any_form_back : (s : Ty) (x : Ty-F Ty) → out-Ty s ≡ x → is_any_form x ≡ true → s ≡ ty.Any
+any_form_back s Any xs e = back s Any xs ∙ ty.rolls-Any
+any_form_back s _ xs e = absurd (false≢true e)
+
 module _ (loose : Bool) (bodies : Bodies) (R : Test) where
   abbrev In : Ty → Ty → Type 0
   In = Case loose bodies (Holds R)
@@ -128,10 +132,6 @@ module _ (loose : Bool) (bodies : Bodies) (R : Test) where
       let both = map_apart R k v l w e in
       maps s t k v l w (back s (Map k v) xs ∙ ty.rolls-Map k v) (back t (Map l w) ys ∙ ty.rolls-Map l w) both.0 both.1
   forms_case s t _ _ xs ys e = absurd (false≢true e)
-
-  any_form_back : (s : Ty) (x : Ty-F Ty) → out-Ty s ≡ x → is_any_form x ≡ true → s ≡ ty.Any
-  any_form_back s Any xs e = back s Any xs ∙ ty.rolls-Any
-  any_form_back s _ xs e = absurd (false≢true e)
 
   any_case : (s t : Ty) → (loose && is_any s) ≡ true → In s t
   any_case s t e = let both = and_parts loose (is_any s) e in from_any s t both.0 (any_form_back s (out-Ty s) refl both.1)

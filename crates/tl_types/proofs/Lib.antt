@@ -12,3 +12,4 @@ pub mod Reflexive
 pub mod Transitive
 pub mod Parts
 pub mod InCases
+pub mod UnionLaws

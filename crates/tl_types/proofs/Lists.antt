@@ -12,7 +12,7 @@ module _ {X : Type 0} where
   pub contains_tail : (x y : X) (xs : List X) → Contains xs y → Contains (x ∷ xs) y
   contains_tail x y xs c = (suc c.0, omega (arith, c.1), c.2)
 
-  contains_cases : (P : Type 0) (x y : X) (xs : List X) → (x ≡ y → P) → (Contains xs y → P) → (k : ℕ) → k < length (x ∷ xs) → get_or (x ∷ xs) k y ≡ y → P
+  pub contains_cases : (P : Type 0) (x y : X) (xs : List X) → (x ≡ y → P) → (Contains xs y → P) → (k : ℕ) → k < length (x ∷ xs) → get_or (x ∷ xs) k y ≡ y → P
   contains_cases P x y xs here there zero within e = here e
   contains_cases P x y xs here there (suc k) within e = there (k, omega (arith, within), e)
 
