@@ -13,3 +13,4 @@ pub mod Transitive
 pub mod Parts
 pub mod InCases
 pub mod UnionLaws
+pub mod UnionShape

@@ -24,7 +24,7 @@ same_when false false f g = refl
 same_when true false f g = sym (f refl)
 same_when false true f g = g refl
 
-cases : (b : Bool) → (b ≡ true) ⊎ (b ≡ false)
+pub cases : (b : Bool) → (b ≡ true) ⊎ (b ≡ false)
 cases true = inl refl
 cases false = inr refl
 
@@ -36,7 +36,7 @@ in_cond : {X : Type 0} (b : Bool) (y : X) (zs : List X) (x : X) → Contains zs 
 in_cond true y zs x c = contains_tail y x zs c
 in_cond false y zs x c = c
 
-kept_contains : {X : Type 0} (q : X → Bool) (xs : List X) (x : X) → q x ≡ true → Contains xs x → Contains (filter q xs) x
+pub kept_contains : {X : Type 0} (q : X → Bool) (xs : List X) (x : X) → q x ≡ true → Contains xs x → Contains (filter q xs) x
 kept_contains q [] x is c = c
 kept_contains q (y ∷ ys) x is c = contains_cases (Contains (filter q (y ∷ ys)) x) y x ys
     (λ same. subst (λ b. Contains (cond b (y ∷ filter q ys) (filter q ys)) x) (sym (ap q same ∙ is)) (subst (λ z. Contains (z ∷ filter q ys) x) (sym same) (contains_head x (filter q ys))))
@@ -47,7 +47,7 @@ all_kept_one p true x zs here rest = and_from (p x) (list_all p zs) here rest
 all_kept_one p false x zs here rest = rest
 
 -- what holds of all holds of those kept, and what holds of one that is kept holds of one
-all_kept : {X : Type 0} (p q : X → Bool) (xs : List X) → list_all p xs ≡ true → list_all p (filter q xs) ≡ true
+pub all_kept : {X : Type 0} (p q : X → Bool) (xs : List X) → list_all p xs ≡ true → list_all p (filter q xs) ≡ true
 all_kept p q [] e = refl
 all_kept p q (x ∷ xs) e = let both = and_parts (p x) (list_all p xs) e in all_kept_one p (q x) x (filter q xs) both.0 (all_kept p q xs both.1)
 
@@ -55,7 +55,7 @@ any_kept_one : {X : Type 0} (p : X → Bool) (b : Bool) (x : X) (xs zs : List X)
 any_kept_one p true x xs zs rest e = or_implies (p x) (list_any p zs) (p x) (list_any p xs) (λ e. e) rest e
 any_kept_one p false x xs zs rest e = or_right (p x) (list_any p xs) (rest e)
 
-any_kept : {X : Type 0} (p q : X → Bool) (xs : List X) → list_any p (filter q xs) ≡ true → list_any p xs ≡ true
+pub any_kept : {X : Type 0} (p q : X → Bool) (xs : List X) → list_any p (filter q xs) ≡ true → list_any p xs ≡ true
 any_kept p q [] e = e
 any_kept p q (x ∷ xs) e = any_kept_one p (q x) x xs (filter q xs) (any_kept p q xs) e
 
@@ -78,14 +78,14 @@ any_dropped p q agrees (x ∷ xs) = any_dropped_one p (q x) x (filter q xs) (agr
 
 -- each type once says what all say
 
-abbrev other : Ty → Ty → Bool
+abbrev pub other : Ty → Ty → Bool
 other t u = not (same_type t u)
 
 not_back : (b : Bool) → not b ≡ false → b ≡ true
 not_back true e = refl
 not_back false e = sym e
 
-not_true : (b : Bool) → not b ≡ true → b ≡ false
+pub not_true : (b : Bool) → not b ≡ true → b ≡ false
 not_true false e = refl
 not_true true e = sym e
 
@@ -104,7 +104,7 @@ any_distinct_one : (p : Ty → Bool) (t : Ty) (ds : List Ty) (b : Bool) → p t 
 any_distinct_one p t ds true is = ap (λ b. b || list_any p (filter (other t) ds)) is ∙ sym (ap (λ b. b || list_any p ds) is)
 any_distinct_one p t ds false is = ap (λ b. p t || b) (any_dropped p (other t) (λ u e. ap p (sym (not_other t u e)) ∙ is) ds)
 
-any_distinct : (p : Ty → Bool) (ts : List Ty) → list_any p (distinct ts) ≡ list_any p ts
+pub any_distinct : (p : Ty → Bool) (ts : List Ty) → list_any p (distinct ts) ≡ list_any p ts
 any_distinct p [] = refl
 any_distinct p (t ∷ ts) = any_distinct_one p t (distinct ts) (p t) refl ∙ ap (λ b. p t || b) (any_distinct p ts)
 
@@ -115,7 +115,7 @@ data IsBaseOf (b x : Ty) : Type 0 where
   int_base : (n : _) → out-Ty b ≡ Int → out-Ty x ≡ IntLit n → IsBaseOf b x
   str_base : (s : List ℕ) → out-Ty b ≡ Str → out-Ty x ≡ StrLit s → IsBaseOf b x
 
-abbrev bare : List Ty → Ty → Bool
+abbrev pub bare : List Ty → Ty → Bool
 bare ts t = not (is_covered ts t)
 
 int_back : (x : Ty-F Ty) → is_int_form x ≡ true → x ≡ Int
@@ -158,7 +158,7 @@ any_bare p follows ts = same_when (list_any p (filter (bare ts) ts)) (list_any p
 
 -- the members of a union
 
-single_no_union : (t : Ty) → is_single t ≡ true → IsNoUnion t
+pub single_no_union : (t : Ty) → is_single t ≡ true → IsNoUnion t
 single_no_union t e ms is = false≢true (sym (ap is_single_form (out_of t (Union ms) (ty.rolls-Union ms ∙ sym is))) ∙ e)
 
 single_members : (t : Ty) → is_single t ≡ true → members t ≡ t ∷ []
@@ -175,17 +175,17 @@ members_from [] e = members_union (ty.Union []) [] refl
 members_from (t ∷ []) e = single_members t (and_parts (is_single t) true e).0
 members_from (t ∷ u ∷ us) e = members_union (ty.Union (t ∷ u ∷ us)) (t ∷ u ∷ us) refl ∙ flat_singles (t ∷ u ∷ us) e
 
-all_members : (ts : List Ty) → list_all is_single (flat_map members ts) ≡ true
+pub all_members : (ts : List Ty) → list_all is_single (flat_map members ts) ≡ true
 all_members ts = all_flat is_single members ts ∙ all_from_contains (λ t. list_all is_single (members t)) ts (λ t here. members_single t)
 
 -- what is left of flat types
 abbrev pub left_of : List Ty → List Ty
 left_of ts = distinct (filter (bare ts) ts)
 
-left_single : (ts : List Ty) → list_all is_single ts ≡ true → list_all is_single (left_of ts) ≡ true
+pub left_single : (ts : List Ty) → list_all is_single ts ≡ true → list_all is_single (left_of ts) ≡ true
 left_single ts e = all_distinct is_single (filter (bare ts) ts) ∙ all_kept is_single (bare ts) ts e
 
-union_plain : (ts : List Ty) → list_any is_any (flat_map members ts) ≡ false → list_any is_value (flat_map members ts) ≡ false → union_form ts ≡ union_from (left_of (flat_map members ts))
+pub union_plain : (ts : List Ty) → list_any is_any (flat_map members ts) ≡ false → list_any is_value (flat_map members ts) ≡ false → union_form ts ≡ union_from (left_of (flat_map members ts))
 union_plain ts no_any no_value =
     let flat = flat_map members ts in
     ap (λ b. cond b ty.Any (cond (list_any is_value flat) ty.Value (union_from (left_of flat)))) no_any ∙ ap (λ b. cond b ty.Value (union_from (left_of flat))) no_value
