@@ -14,3 +14,4 @@ pub mod Parts
 pub mod InCases
 pub mod UnionLaws
 pub mod UnionShape
+pub mod EveryDepth

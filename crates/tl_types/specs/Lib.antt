@@ -6,3 +6,4 @@ pub mod Below
 pub mod Parts
 pub mod Adding
 pub mod Cases
+pub mod Laws
