@@ -10,9 +10,11 @@ use Rattle.tl_types.specs.declared.types.TupleOf.{TupleOf}
 use Rattle.tl_types.specs.declared.types.FuncOf.{FuncOf}
 use Rattle.tl_types.specs.Types.{Field, Bodies, members, unfolded, unfold_form}
 use Rattle.tl_types.specs.Unions.{is_any, is_any_form, general_form_of, general_member, general_form, union_form, boolean}
-use Rattle.tl_types.specs.Below.{named, form_below, function_below, record_below, tuple_below, results_below, map_below, member_below, step, below, IsBelow, IsSubtype, IsConsistent}
+use Rattle.tl_types.specs.Below.{named, form_below, function_below, record_below, tuple_below, results_below, map_below, member_below, step, below, IsBelow, IsSubtype, IsConsistent, IsFlow}
 use Rattle.tl_types.specs.Cases.{Relation, IsNoUnion, Case, EachPlace, EachTuple, FieldBelow, EachField}
 use Rattle.tl_types.specs.Laws.{AtDepth}
+use Rattle.tl_types.specs.declared.flow.Flow.{Flow}
+use Rattle.tl_types.specs.declared.flow.Flow.TheVariants as flow
 use Rattle.tl_types.proofs.Bools.{or_left, or_right, or_implies, all_implies, any_flat}
 use Rattle.tl_types.proofs.Lists.{all_contains, all_from_contains, any_contains, any_from_contains}
 use Rattle.tl_types.proofs.Members.{members_union, is_single_form, out_of}
@@ -132,3 +134,14 @@ module _ (loose : Bool) (bodies : Bodies) where
         (λ e. ((record { to = λ n. (parts e n).0.0 }, record { to = λ n. (parts e n).0.1 }), (record { to = λ n. (parts e n).1.0 }, record { to = λ n. (parts e n).1.1 }))),
         (λ all. joined s t (Map k v) (Map l w) form_s form_t refl refl refl (λ n. map_joined (below loose bodies n) k v l w (all.0.0.to n, all.0.1.to n) (all.1.0.to n, all.1.1.to n)))
       )
+
+pub one_flow : (bodies : Bodies) (s t : Ty) (f g : Flow) → IsFlow bodies s t f → IsFlow bodies s t g → f ≡ g
+one_flow bodies s t flow.Plain flow.Plain one two = refl
+one_flow bodies s t flow.Plain flow.Crossing one two = absurd (two.1 one)
+one_flow bodies s t flow.Plain flow.No one two = absurd (two (subtype_loosens bodies s t one))
+one_flow bodies s t flow.Crossing flow.Plain one two = absurd (one.1 two)
+one_flow bodies s t flow.Crossing flow.Crossing one two = refl
+one_flow bodies s t flow.Crossing flow.No one two = absurd (two one.0)
+one_flow bodies s t flow.No flow.Plain one two = absurd (one (subtype_loosens bodies s t two))
+one_flow bodies s t flow.No flow.Crossing one two = absurd (one two.0)
+one_flow bodies s t flow.No flow.No one two = refl

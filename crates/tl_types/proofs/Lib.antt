@@ -15,3 +15,4 @@ pub mod InCases
 pub mod UnionLaws
 pub mod UnionShape
 pub mod EveryDepth
+pub mod Generals

@@ -51,7 +51,7 @@ module _ (R : Test) (self : (t : Ty) → R t t ≡ true) where
   record_self : (fs : List Field) → record_below R fs fs ≡ true
   record_self fs = all_true (λ g. has_below R (named g.name fs) (named g.name fs)) (λ g. has_self (named g.name fs)) fs
 
-  form_self : (bodies : Bodies) (x : Ty-F Ty) → is_single_form x ≡ true → form_below R (unfold_form bodies x) (unfold_form bodies x) ≡ true
+  pub form_self : (bodies : Bodies) (x : Ty-F Ty) → is_single_form x ≡ true → form_below R (unfold_form bodies x) (unfold_form bodies x) ≡ true
   form_self bodies (Union ms) single = absurd (false≢true single)
   form_self bodies Nil single = refl
   form_self bodies True single = refl

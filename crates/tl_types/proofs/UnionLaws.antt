@@ -161,7 +161,7 @@ any_bare p follows ts = same_when (list_any p (filter (bare ts) ts)) (list_any p
 pub single_no_union : (t : Ty) → is_single t ≡ true → IsNoUnion t
 single_no_union t e ms is = false≢true (sym (ap is_single_form (out_of t (Union ms) (ty.rolls-Union ms ∙ sym is))) ∙ e)
 
-single_members : (t : Ty) → is_single t ≡ true → members t ≡ t ∷ []
+pub single_members : (t : Ty) → is_single t ≡ true → members t ≡ t ∷ []
 single_members t e = members_one t (single_no_union t e)
 
 flat_singles : (ts : List Ty) → list_all is_single ts ≡ true → flat_map members ts ≡ ts
@@ -320,7 +320,7 @@ module _ (loose : Bool) (bodies : Bodies) (R : Test) where
       let holds : member_below bodies R s top ≡ true = below_top (unfolded bodies s) (unfolded bodies top) is in
       ap (list_any (member_below bodies R s)) (members_one top single) ∙ (or_left (member_below bodies R s top) false holds ∙ sym (any_from_contains (member_below bodies R s) (flat_map members ts) top here holds))
 
-  to_members : (s : Ty) (ts : List Ty) → list_any (member_below bodies R s) (members (union_form ts)) ≡ list_any (member_below bodies R s) (flat_map members ts)
+  pub to_members : (s : Ty) (ts : List Ty) → list_any (member_below bodies R s) (members (union_form ts)) ≡ list_any (member_below bodies R s) (flat_map members ts)
   to_members s ts =
       let flat = flat_map members ts in
       let test = member_below bodies R s in

@@ -1,5 +1,5 @@
 -- One step of the two orders in words: the cases in which a type is below another, where P says what components are below one another.
-use Rattle.std.specs.Prelude.{◌≡◌, ℕ, Bool, true, false, ◌⊎◌, List, Contains, Option, Some}
+use Rattle.std.specs.Prelude.{◌≡◌, ℕ, ℤ, Bool, true, false, List, Contains, Some}
 use Rattle.tl_types.specs.declared.types.Ty.{Ty, out-Ty}
 use Rattle.tl_types.specs.declared.types.Ty.TheVariants as ty
 use Rattle.tl_types.specs.declared.types.Ty.TheOpen.{Ty-F, Nil, True, False, Int, IntLit, Str, StrLit, Value, Any, Union, Func, Rec, Map, Iface}
@@ -55,7 +55,7 @@ pub data Case (loose : Bool) (bodies : Bodies) (P : Relation) : Ty → Ty → Ty
   to_union : (s t : Ty) (ms : List Ty) (m : Ty) → t ≡ ty.Union ms → IsNoUnion s → Contains ms m → Case loose bodies P s m → Case loose bodies P s t
   -- the same base type or literal, or a literal and its base type
   same_base : (s t : Ty) → IsBase s → s ≡ t → Case loose bodies P s t
-  integer_literal : (s t : Ty) (n : _) → s ≡ ty.IntLit n → t ≡ ty.Int → Case loose bodies P s t
+  integer_literal : (s t : Ty) (n : ℤ) → s ≡ ty.IntLit n → t ≡ ty.Int → Case loose bodies P s t
   string_literal : (s t : Ty) (b : List ℕ) → s ≡ ty.StrLit b → t ≡ ty.Str → Case loose bodies P s t
   -- functions: the parameters the other way round, and each tuple of results is below one of the other's
   functions : (s t : Ty) (f g : FuncOf Ty) → s ≡ ty.Func f → t ≡ ty.Func g → EachPlace P g.params f.params → EachTuple P f.results.tuples g.results.tuples → Case loose bodies P s t

@@ -4,6 +4,7 @@
 mod copies;
 mod equality;
 mod flow;
+pub mod laws;
 mod sizes;
 mod text;
 mod types;
