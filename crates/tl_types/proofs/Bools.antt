@@ -55,8 +55,8 @@ module _ {X : Type 0} where
   all_within_from good test self ys (x ∷ xs) e =
       let both = and_parts (good x) (list_all good xs) e in
       and_from (list_any (test x) (ys ++ x ∷ xs)) (list_all (λ z. list_any (test z) (ys ++ x ∷ xs)) xs)
-          (list_any-append (test x) ys (x ∷ xs) ∙ or_right (list_any (test x) ys) (test x x || list_any (test x) xs) (or_left (test x x) (list_any (test x) xs) (self x both.0)))
-          (all_implies (λ z. list_any (test z) ((ys ++ x ∷ []) ++ xs)) (λ z. list_any (test z) (ys ++ x ∷ xs)) (λ z. any_moved (test z) x ys xs) xs (all_within_from good test self (ys ++ x ∷ []) xs both.1))
+      (list_any-append (test x) ys (x ∷ xs) ∙ or_right (list_any (test x) ys) (test x x || list_any (test x) xs) (or_left (test x x) (list_any (test x) xs) (self x both.0)))
+      (all_implies (λ z. list_any (test z) ((ys ++ x ∷ []) ++ xs)) (λ z. list_any (test z) (ys ++ x ∷ xs)) (λ z. any_moved (test z) x ys xs) xs (all_within_from good test self (ys ++ x ∷ []) xs both.1))
 
   -- each element stands in the list
   pub all_within : (good : X → Bool) (test : X → X → Bool) → ((x : X) → good x ≡ true → test x x ≡ true) → (xs : List X) → list_all good xs ≡ true → list_all (λ x. list_any (test x) xs) xs ≡ true

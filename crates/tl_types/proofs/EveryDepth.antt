@@ -78,17 +78,18 @@ module _ (loose : Bool) (bodies : Bodies) where
 
   pub union_from_each : (s t : Ty) (ms : List Ty) → s ≡ ty.Union ms → IsBelow loose bodies s t ↔ ((m : Ty) → Contains ms m → IsBelow loose bodies m t)
   union_from_each s t ms is = (
-      (λ e m here. record { to = each_below s t ms is m here (λ n. e.to n) }),
-      (λ each. record { to = all_below s t ms is each }))
+    (λ e m here. record { to = each_below s t ms is m here (λ n. e.to n) }),
+    (λ each. record { to = all_below s t ms is each }),
+  )
 
   member_at : (s t m : Ty) (ms : List Ty) → t ≡ ty.Union ms → Contains ms m → ((n : ℕ) → below loose bodies n s m ≡ true) → (n : ℕ) → below loose bodies n s t ≡ true
   member_at s t m ms is here e zero = refl
   member_at s t m ms is here e (suc n) =
       let test = member_below bodies (below loose bodies n) in
       all_implies (λ a. (loose && is_any a) || list_any (test a) (members m)) (λ a. (loose && is_any a) || list_any (test a) (members t))
-          (λ a. or_implies (loose && is_any a) (list_any (test a) (members m)) (loose && is_any a) (list_any (test a) (members t)) (λ e. e)
-              (λ e. ap (list_any (test a)) (members_union t ms is) ∙ (any_flat (test a) members ms ∙ any_from_contains (λ m. list_any (test a) (members m)) ms m here e)))
-          (members s) (e (suc n))
+      (λ a. or_implies (loose && is_any a) (list_any (test a) (members m)) (loose && is_any a) (list_any (test a) (members t)) (λ e. e)
+      (λ e. ap (list_any (test a)) (members_union t ms is) ∙ (any_flat (test a) members ms ∙ any_from_contains (λ m. list_any (test a) (members m)) ms m here e)))
+      (members s) (e (suc n))
 
   pub union_to_member : (s t m : Ty) (ms : List Ty) → t ≡ ty.Union ms → Contains ms m → IsBelow loose bodies s m → IsBelow loose bodies s t
   union_to_member s t m ms is here e = record { to = member_at s t m ms is here e.to }
@@ -98,12 +99,11 @@ module _ (loose : Bool) (bodies : Bodies) where
   functions_apart s t f g is it =
       let form_s = form_of bodies s (Func f) (ty.rolls-Func f ∙ sym is) in
       let form_t = form_of bodies t (Func g) (ty.rolls-Func g ∙ sym it) in
-      let parts = λ (e : IsBelow loose bodies s t) (n : ℕ). and_parts (tuple_below (below loose bodies n) g.params f.params) (results_below (below loose bodies n) f.results.tuples g.results.tuples) (apart s t (Func f) (Func g) form_s form_t refl refl refl e n) in
-      (
+      let parts = λ (e : IsBelow loose bodies s t) (n : ℕ). and_parts (tuple_below (below loose bodies n) g.params f.params) (results_below (below loose bodies n) f.results.tuples g.results.tuples) (apart s t (Func f) (Func g) form_s form_t refl refl refl e n) in (
         (λ e. ((λ i. record { to = λ n. tuple_apart (below loose bodies n) g.params f.params (parts e n).0 i }), (λ n. results_apart (below loose bodies n) f.results.tuples g.results.tuples (parts e n).1))),
         (λ both. joined s t (Func f) (Func g) form_s form_t refl refl refl (λ n.
-          and_from (tuple_below (below loose bodies n) g.params f.params) (results_below (below loose bodies n) f.results.tuples g.results.tuples)
-              (tuple_joined (below loose bodies n) g.params f.params (λ i. (both.0 i).to n)) (results_joined (below loose bodies n) f.results.tuples g.results.tuples (both.1 n))))
+            and_from (tuple_below (below loose bodies n) g.params f.params) (results_below (below loose bodies n) f.results.tuples g.results.tuples)
+            (tuple_joined (below loose bodies n) g.params f.params (λ i. (both.0 i).to n)) (results_joined (below loose bodies n) f.results.tuples g.results.tuples (both.1 n)))),
       )
 
   same_found : (f h : Field) (o : Option Field) → o ≡ Some f → o ≡ Some h → h ≡ f
@@ -122,17 +122,17 @@ module _ (loose : Bool) (bodies : Bodies) where
 
   pub records_apart : (s t : Ty) (fs gs : List Field) → unfolded bodies s ≡ Rec fs → unfolded bodies t ≡ Rec gs → IsBelow loose bodies s t ↔ EachField (IsBelow loose bodies) fs gs
   records_apart s t fs gs is it = (
-      (λ e. fields_each fs gs (λ n. record_apart (below loose bodies n) fs gs (apart s t (Rec fs) (Rec gs) is it refl refl refl e n))),
-      (λ each. joined s t (Rec fs) (Rec gs) is it refl refl refl (λ n. record_joined (below loose bodies n) fs gs (fields_at fs gs each n))))
+    (λ e. fields_each fs gs (λ n. record_apart (below loose bodies n) fs gs (apart s t (Rec fs) (Rec gs) is it refl refl refl e n))),
+    (λ each. joined s t (Rec fs) (Rec gs) is it refl refl refl (λ n. record_joined (below loose bodies n) fs gs (fields_at fs gs each n))),
+  )
 
   pub maps_apart : (s t k v l w : Ty) → s ≡ ty.Map k v → t ≡ ty.Map l w → IsBelow loose bodies s t ↔ ((IsBelow loose bodies k l × IsBelow loose bodies l k) × (IsBelow loose bodies v w × IsBelow loose bodies w v))
   maps_apart s t k v l w is it =
       let form_s = form_of bodies s (Map k v) (ty.rolls-Map k v ∙ sym is) in
       let form_t = form_of bodies t (Map l w) (ty.rolls-Map l w ∙ sym it) in
-      let parts = λ (e : IsBelow loose bodies s t) (n : ℕ). map_apart (below loose bodies n) k v l w (apart s t (Map k v) (Map l w) form_s form_t refl refl refl e n) in
-      (
+      let parts = λ (e : IsBelow loose bodies s t) (n : ℕ). map_apart (below loose bodies n) k v l w (apart s t (Map k v) (Map l w) form_s form_t refl refl refl e n) in (
         (λ e. ((record { to = λ n. (parts e n).0.0 }, record { to = λ n. (parts e n).0.1 }), (record { to = λ n. (parts e n).1.0 }, record { to = λ n. (parts e n).1.1 }))),
-        (λ all. joined s t (Map k v) (Map l w) form_s form_t refl refl refl (λ n. map_joined (below loose bodies n) k v l w (all.0.0.to n, all.0.1.to n) (all.1.0.to n, all.1.1.to n)))
+        (λ all. joined s t (Map k v) (Map l w) form_s form_t refl refl refl (λ n. map_joined (below loose bodies n) k v l w (all.0.0.to n, all.0.1.to n) (all.1.0.to n, all.1.1.to n))),
       )
 
 pub one_flow : (bodies : Bodies) (s t : Ty) (f g : Flow) → IsFlow bodies s t f → IsFlow bodies s t g → f ≡ g

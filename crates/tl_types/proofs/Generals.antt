@@ -47,11 +47,11 @@ module _ (bodies : Bodies) (R : Test) (self : (t : Ty) → R t t ≡ true) where
   step_general loose t =
       let forms = map general_member (members t) in
       all_from_contains (λ a. (loose && is_any a) || list_any (member_below bodies R a) (members (general_form t))) (members t) (λ a here.
-          or_right (loose && is_any a) (list_any (member_below bodies R a) (members (general_form t)))
-              (to_members loose bodies R a forms
-              ∙ (any_flat (member_below bodies R a) members forms
-              ∙ any_from_contains (λ g. list_any (member_below bodies R a) (members g)) forms (general_member a) (mapped general_member (members t) a here)
-                  (into_general a (out-Ty a) refl (all_contains is_single (members t) a (members_single t) here)))))
+      or_right (loose && is_any a) (list_any (member_below bodies R a) (members (general_form t)))
+      (to_members loose bodies R a forms
+      ∙ (any_flat (member_below bodies R a) members forms
+      ∙ any_from_contains (λ g. list_any (member_below bodies R a) (members g)) forms (general_member a) (mapped general_member (members t) a here)
+      (into_general a (out-Ty a) refl (all_contains is_single (members t) a (members_single t) here)))))
 
 pub below_general : (loose : Bool) (bodies : Bodies) (n : ℕ) (t : Ty) → below loose bodies n t (general_form t) ≡ true
 below_general loose bodies zero t = refl

@@ -81,8 +81,8 @@ module _ (loose : Bool) (bodies : Bodies) (R : Test) where
   union_step s t ms m is single here e =
       step_single loose bodies R s t single
       ∙ or_implies (loose && is_any s) (list_any (member_below bodies R s) (members m)) (loose && is_any s) (list_any (member_below bodies R s) (members t)) (λ e. e)
-          (λ e. ap (list_any (member_below bodies R s)) (members_union t ms is) ∙ (any_flat (member_below bodies R s) members ms ∙ any_from_contains (λ m. list_any (member_below bodies R s) (members m)) ms m here e))
-          (sym (step_single loose bodies R s m single) ∙ e)
+      (λ e. ap (list_any (member_below bodies R s)) (members_union t ms is) ∙ (any_flat (member_below bodies R s) members ms ∙ any_from_contains (λ m. list_any (member_below bodies R s) (members m)) ms m here e))
+      (sym (step_single loose bodies R s m single) ∙ e)
 
   loose_step : (s t : Ty) → loose ≡ true → s ≡ ty.Any → is_step s t
   loose_step s t is any =
@@ -177,8 +177,8 @@ module _ (loose : Bool) (bodies : Bodies) (R : Test) where
     left_case (Union ss) s t is e =
         let union : s ≡ ty.Union (map f ss) = sym is ∙ ty.rolls-Union (map f ss) in
         from_union s t (map f ss) union (λ m here.
-            let found = contained_map f ss m here in
-            subst (λ m. is_step m t → In m t) found.1 (λ e. each found.0 t e) (all_contains (λ m. step loose bodies R m t) (map f ss) m (sym (step_from_union loose bodies R s t (map f ss) union) ∙ e) here))
+        let found = contained_map f ss m here in
+        subst (λ m. is_step m t → In m t) found.1 (λ e. each found.0 t e) (all_contains (λ m. step loose bodies R m t) (map f ss) m (sym (step_from_union loose bodies R s t (map f ss) union) ∙ e) here))
     left_case Nil s t is e = single_case s (single_unless s Nil (out_of s Nil is) refl) t e
     left_case True s t is e = single_case s (single_unless s True (out_of s True is) refl) t e
     left_case False s t is e = single_case s (single_unless s False (out_of s False is) refl) t e

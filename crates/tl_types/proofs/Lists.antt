@@ -29,9 +29,9 @@ module _ {X : Type 0} where
   pub any_contains : (p : X → Bool) (xs : List X) → list_any p xs ≡ true → (x : X) × Contains xs x × (p x ≡ true)
   any_contains p [] e = absurd (false≢true e)
   any_contains p (x ∷ xs) e = elim (or_cases (p x) (list_any p xs) e) as (λ c. (z : X) × Contains (x ∷ xs) z × (p z ≡ true)) [
-      | inl here ↦ (x, contains_head x xs, here)
-      | inr there ↦ let found = any_contains p xs there in (found.0, contains_tail x found.0 xs found.1, found.2)
-    ]
+    | inl here ↦ (x, contains_head x xs, here)
+    | inr there ↦ let found = any_contains p xs there in (found.0, contains_tail x found.0 xs found.1, found.2)
+  ]
 
   pub any_from_contains : (p : X → Bool) (xs : List X) (x : X) → Contains xs x → p x ≡ true → list_any p xs ≡ true
   any_from_contains p [] x c e = absurd (omega (arith, c.1))

@@ -50,9 +50,6 @@ members_union t ms is = members_is t ∙ ap (form_members t) (out_of t (Union ms
 
 -- a type that is no union is its own one member
 
-
-
-
 one_member : (t : Ty) (x : Ty-F Ty) → out-Ty t ≡ x → IsNoUnion t → form_members t x ≡ t ∷ []
 one_member t (Union ms) e no_union = absurd (no_union ms (sym (roll_out t) ∙ (ap roll-Ty e ∙ ty.rolls-Union ms)))
 one_member t _ e no_union = refl

@@ -70,7 +70,7 @@ module _ (R : Test) (self : (t : Ty) → R t t ≡ true) where
   step_self : (loose : Bool) (bodies : Bodies) (t : Ty) → step loose bodies R t t ≡ true
   step_self loose bodies t =
       all_implies (λ a. list_any (member_below bodies R a) (members t)) (λ a. (loose && is_any a) || list_any (member_below bodies R a) (members t)) (λ a. or_right (loose && is_any a) (list_any (member_below bodies R a) (members t))) (members t)
-          (all_within is_single (member_below bodies R) (λ a single. form_self bodies (out-Ty a) single) (members t) (members_single t))
+      (all_within is_single (member_below bodies R) (λ a single. form_self bodies (out-Ty a) single) (members t) (members_single t))
 
 pub below_self : (loose : Bool) (bodies : Bodies) (n : ℕ) (t : Ty) → below loose bodies n t t ≡ true
 below_self loose bodies zero t = refl

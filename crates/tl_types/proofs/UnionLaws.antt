@@ -142,19 +142,19 @@ base_left ts x _ is e = absurd (false≢true e)
 all_bare : (p : Ty → Bool) → ((b x : Ty) → IsBaseOf b x → p b ≡ true → p x ≡ true) → (ts : List Ty) → list_all p (filter (bare ts) ts) ≡ list_all p ts
 all_bare p follows ts = same_when (list_all p (filter (bare ts) ts)) (list_all p ts)
     (λ e. all_from_contains p ts (λ x here. elim (cases (is_covered ts x)) as (λ c. p x ≡ true) [
-        | inl covered ↦ let base = base_left ts x (out-Ty x) refl covered in follows base.0 x base.2 (all_contains p (filter (bare ts) ts) base.0 e base.1)
-        | inr uncovered ↦ all_contains p (filter (bare ts) ts) x e (kept_contains (bare ts) ts x (ap not uncovered) here)
-      ]))
+      | inl covered ↦ let base = base_left ts x (out-Ty x) refl covered in follows base.0 x base.2 (all_contains p (filter (bare ts) ts) base.0 e base.1)
+      | inr uncovered ↦ all_contains p (filter (bare ts) ts) x e (kept_contains (bare ts) ts x (ap not uncovered) here)
+    ]))
     (all_kept p (bare ts) ts)
 
 -- the same for a test that holds of the base type wherever it holds of the literal
 any_bare : (p : Ty → Bool) → ((b x : Ty) → IsBaseOf b x → p x ≡ true → p b ≡ true) → (ts : List Ty) → list_any p (filter (bare ts) ts) ≡ list_any p ts
 any_bare p follows ts = same_when (list_any p (filter (bare ts) ts)) (list_any p ts) (any_kept p (bare ts) ts)
     (λ e. let found = any_contains p ts e in
-        elim (cases (is_covered ts found.0)) as (λ c. list_any p (filter (bare ts) ts) ≡ true) [
-        | inl covered ↦ let base = base_left ts found.0 (out-Ty found.0) refl covered in any_from_contains p (filter (bare ts) ts) base.0 base.1 (follows base.0 found.0 base.2 found.2)
-        | inr uncovered ↦ any_from_contains p (filter (bare ts) ts) found.0 (kept_contains (bare ts) ts found.0 (ap not uncovered) found.1) found.2
-      ])
+    elim (cases (is_covered ts found.0)) as (λ c. list_any p (filter (bare ts) ts) ≡ true) [
+      | inl covered ↦ let base = base_left ts found.0 (out-Ty found.0) refl covered in any_from_contains p (filter (bare ts) ts) base.0 base.1 (follows base.0 found.0 base.2 found.2)
+      | inr uncovered ↦ any_from_contains p (filter (bare ts) ts) found.0 (kept_contains (bare ts) ts found.0 (ap not uncovered) found.1) found.2
+    ])
 
 -- the members of a union
 
@@ -260,7 +260,7 @@ module _ (loose : Bool) (bodies : Bodies) (R : Test) where
   top_all : (t top : Ty) (flat : List Ty) → is_top_form (unfolded bodies top) ≡ true → (loose && is_any top) ≡ false → Contains flat top → list_any (member_below bodies R top) (members t) ≡ list_all (left_test t) flat
   top_all t top flat is strict here = same_when (list_any (member_below bodies R top) (members t)) (list_all (left_test t) flat)
       (λ e. all_from_contains (left_test t) flat (λ x in_flat. or_right (loose && is_any x) (list_any (member_below bodies R x) (members t))
-          (any_implies (member_below bodies R top) (member_below bodies R x) (λ u e. top_below (unfolded bodies top) (unfolded bodies x) (unfolded bodies u) is e) (members t) e)))
+      (any_implies (member_below bodies R top) (member_below bodies R x) (λ u e. top_below (unfolded bodies top) (unfolded bodies x) (unfolded bodies u) is e) (members t) e)))
       (λ e. or_other (loose && is_any top) (list_any (member_below bodies R top) (members t)) strict (all_contains (left_test t) flat top e here))
 
   flat_all_is : (t : Ty) (ts : List Ty) → list_all (left_test t) (flat_map members ts) ≡ list_all (λ s. step loose bodies R s t) ts

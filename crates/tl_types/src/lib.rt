@@ -6,6 +6,8 @@ mod equality;
 mod flow;
 pub mod laws;
 mod sizes;
+#[cfg(test)]
+mod tests;
 mod text;
 mod types;
 mod unions;
