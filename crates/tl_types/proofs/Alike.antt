@@ -1,7 +1,6 @@
 -- The test for the same tree holds exactly of equal types.
-use Rattle.std.proofs.Common.{◌≡◌, ℕ, Bool, true, false, ◌&&◌, not, List, [], ◌∷◌, refl, sym, ap, ◌∙◌, map, ◌↔◌, subst}
-use Rattle.std.specs.Prelude.{bytes_eq, nat_eq, IsTrue}
-use Rattle.std.specs.Ordering.{int_eq}
+use Rattle.std.proofs.Common.{◌≡◌, Bool, true, false, ◌&&◌, List, [], ◌∷◌, refl, sym, ap, ◌∙◌, map, ◌↔◌, subst}
+use Rattle.std.specs.Prelude.{bytes_eq, IsTrue}
 use Rattle.std.proofs.lemmas.Bool.{and_parts, and_from, false≢true, eqb-true, eq-eqb}
 use Rattle.std.proofs.lemmas.Bool.Decides.{Decides-int_eq}
 use Rattle.std.proofs.lemmas.Slice.Eq.{bytes_eq-Decides}
@@ -11,7 +10,7 @@ use Rattle.tl_types.specs.declared.types.Ty.TheViews.{the_lemmas}
 use Rattle.tl_types.specs.declared.types.FieldOf.{FieldOf}
 use Rattle.tl_types.specs.declared.types.TupleOf.{TupleOf}
 use Rattle.tl_types.specs.declared.types.FuncOf.{FuncOf}
-use Rattle.tl_types.specs.Same.{same_type, form_passes, each_passes, fields_pass, tuple_passes, tuples_pass, func_passes, bool_eq}
+use Rattle.tl_types.specs.Same.{same_type, form_passes, each_passes, fields_pass, tuple_passes, tuples_pass, bool_eq}
 
 pub roll_out : (t : Ty) → roll-Ty (out-Ty t) ≡ t
 roll_out t = search the_lemmas

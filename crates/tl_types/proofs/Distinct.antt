@@ -1,16 +1,15 @@
 -- To add types one after the other, each where it isn't there yet, keeps each once at the first one's place.
-use Rattle.std.proofs.Common.{◌≡◌, ℕ, Bool, true, false, ◌||◌, ◌&&◌, not, cond, List, [], ◌∷◌, ◌++◌, refl, sym, ap, ◌∙◌, subst, append_assoc}
+use Rattle.std.proofs.Common.{◌≡◌, Bool, true, false, ◌||◌, ◌&&◌, not, cond, List, [], ◌∷◌, ◌++◌, refl, sym, ap, ◌∙◌, subst, append_assoc}
 use Rattle.std.specs.Prelude.{flat_map, fold, filter}
 use Rattle.std.specs.List.{list_any}
-use Rattle.std.proofs.lemmas.Bool.{false≢true, both_ways}
 use Rattle.std.proofs.lemmas.List.Folds.{list_any-append}
-use Rattle.tl_types.specs.declared.types.Ty.{Ty, out-Ty}
+use Rattle.tl_types.specs.declared.types.Ty.{Ty}
 use Rattle.tl_types.specs.declared.types.Ty.TheVariants as ty
 use Rattle.tl_types.specs.Types.{members}
 use Rattle.tl_types.specs.Same.{same_type}
-use Rattle.tl_types.specs.Unions.{is_any, is_value, is_int, is_str, is_covered, distinct, union_from, union_flat, union_form}
+use Rattle.tl_types.specs.Unions.{is_any, is_value, is_int, is_str, is_covered, distinct, union_from, union_form}
 use Rattle.tl_types.specs.Adding.{add, add_all}
-use Rattle.tl_types.proofs.Alike.{same_right, same_self, same_decides}
+use Rattle.tl_types.proofs.Alike.{same_right, same_self}
 use Rattle.tl_types.proofs.Gathered.{append_nil}
 
 same_when : (a b : Bool) → (a ≡ true → b ≡ true) → (b ≡ true → a ≡ true) → a ≡ b

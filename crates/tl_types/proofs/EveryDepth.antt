@@ -1,28 +1,27 @@
 -- The orders at every depth: laws of a preorder, unions, and functions, records and maps taken apart.
-use Rattle.std.proofs.Common.{◌≡◌, ℕ, zero, suc, Bool, true, false, ◌&&◌, ◌||◌, List, [], ◌∷◌, refl, sym, ap, ◌∙◌, subst, ◌↔◌}
-use Rattle.std.specs.Prelude.{Contains, Option, Some, None}
-use Rattle.std.specs.List.{list_any, list_all}
+use Rattle.std.proofs.Common.{◌≡◌, ℕ, zero, suc, Bool, true, false, ◌&&◌, ◌||◌, List, refl, sym, ap, ◌∙◌, subst, ◌↔◌}
+use Rattle.std.specs.Prelude.{Contains, Option, Some}
+use Rattle.std.specs.List.{list_any}
 use Rattle.std.proofs.lemmas.Bool.{and_parts, and_from, false≢true}
-use Rattle.tl_types.specs.declared.types.Ty.{Ty, out-Ty, roll-Ty}
+use Rattle.tl_types.specs.declared.types.Ty.{Ty, out-Ty}
 use Rattle.tl_types.specs.declared.types.Ty.TheVariants as ty
-use Rattle.tl_types.specs.declared.types.Ty.TheOpen.{Ty-F, Nil, True, False, Int, IntLit, Str, StrLit, Value, Any, Union, Func, Rec, Map, Iface}
-use Rattle.tl_types.specs.declared.types.TupleOf.{TupleOf}
+use Rattle.tl_types.specs.declared.types.Ty.TheOpen.{Ty-F, Union, Func, Rec, Map, Iface}
 use Rattle.tl_types.specs.declared.types.FuncOf.{FuncOf}
 use Rattle.tl_types.specs.Types.{Field, Bodies, members, unfolded, unfold_form}
-use Rattle.tl_types.specs.Unions.{is_any, is_any_form, general_form_of, general_member, general_form, union_form, boolean}
-use Rattle.tl_types.specs.Below.{named, form_below, function_below, record_below, tuple_below, results_below, map_below, member_below, step, below, IsBelow, IsSubtype, IsConsistent, IsFlow}
-use Rattle.tl_types.specs.Cases.{Relation, IsNoUnion, Case, EachPlace, EachTuple, FieldBelow, EachField}
+use Rattle.tl_types.specs.Unions.{is_any, is_any_form}
+use Rattle.tl_types.specs.Below.{named, form_below, tuple_below, results_below, member_below, below, IsBelow, IsSubtype, IsConsistent, IsFlow}
+use Rattle.tl_types.specs.Cases.{IsNoUnion, Case, EachPlace, EachTuple, FieldBelow, EachField}
 use Rattle.tl_types.specs.Laws.{AtDepth}
 use Rattle.tl_types.specs.declared.flow.Flow.{Flow}
 use Rattle.tl_types.specs.declared.flow.Flow.TheVariants as flow
-use Rattle.tl_types.proofs.Bools.{or_left, or_right, or_implies, all_implies, any_flat}
-use Rattle.tl_types.proofs.Lists.{all_contains, all_from_contains, any_contains, any_from_contains}
-use Rattle.tl_types.proofs.Members.{members_union, is_single_form, out_of}
-use Rattle.tl_types.proofs.Layers.{form_of, any_of, step_from_union, step_single, step_singles, member_forms}
-use Rattle.tl_types.proofs.Mono.{below_falls, below_loosens}
+use Rattle.tl_types.proofs.Bools.{or_implies, all_implies, any_flat}
+use Rattle.tl_types.proofs.Lists.{all_contains, all_from_contains, any_from_contains}
+use Rattle.tl_types.proofs.Members.{members_union, is_single_form}
+use Rattle.tl_types.proofs.Layers.{form_of, step_from_union, step_singles, member_forms}
+use Rattle.tl_types.proofs.Mono.{below_loosens}
 use Rattle.tl_types.proofs.Reflexive.{below_self}
 use Rattle.tl_types.proofs.Transitive.{below_passes}
-use Rattle.tl_types.proofs.Parts.{Holds, tuple_apart, tuple_joined, results_apart, results_joined, record_apart, record_joined, map_apart, map_joined}
+use Rattle.tl_types.proofs.Parts.{tuple_apart, tuple_joined, results_apart, results_joined, record_apart, record_joined, map_apart, map_joined}
 use Rattle.tl_types.proofs.InCases.{step_case, case_step}
 
 pub below_cases : (loose : Bool) (bodies : Bodies) (n : ℕ) (s t : Ty) → (below loose bodies (suc n) s t ≡ true) ↔ Case loose bodies (AtDepth loose bodies n) s t

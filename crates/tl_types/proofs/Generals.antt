@@ -1,13 +1,12 @@
 -- A type is below its general form.
-use Rattle.std.proofs.Common.{◌≡◌, ℕ, zero, suc, ◌<◌, Bool, true, false, ◌&&◌, ◌||◌, List, [], ◌∷◌, refl, sym, ap, ◌∙◌, subst, map, arith, length, get_or}
-use Rattle.std.specs.Prelude.{flat_map, Contains}
-use Rattle.std.specs.List.{list_any, list_all}
-use Rattle.std.proofs.lemmas.Bool.{and_parts, and_from, false≢true}
+use Rattle.std.proofs.Common.{◌≡◌, ℕ, zero, suc, Bool, true, false, ◌&&◌, ◌||◌, List, [], ◌∷◌, refl, sym, ap, ◌∙◌, subst, map, arith}
+use Rattle.std.specs.Prelude.{Contains}
+use Rattle.std.specs.List.{list_any}
 use Rattle.tl_types.specs.declared.types.Ty.{Ty, out-Ty, roll-Ty}
 use Rattle.tl_types.specs.declared.types.Ty.TheVariants as ty
-use Rattle.tl_types.specs.declared.types.Ty.TheOpen.{Ty-F, Nil, True, False, Int, IntLit, Str, StrLit, Value, Any, Union, Func, Rec, Map, Iface}
+use Rattle.tl_types.specs.declared.types.Ty.TheOpen.{Ty-F, True, False, Int, IntLit, Str, StrLit}
 use Rattle.tl_types.specs.Types.{Bodies, members, unfolded, unfold_form}
-use Rattle.tl_types.specs.Unions.{is_any, general_form_of, general_member, general_form, union_form, boolean}
+use Rattle.tl_types.specs.Unions.{is_any, general_form_of, general_member, general_form, boolean}
 use Rattle.tl_types.specs.Below.{Test, form_below, member_below, step, below}
 use Rattle.tl_types.proofs.Bools.{or_left, or_right, any_flat}
 use Rattle.tl_types.proofs.Lists.{all_contains, all_from_contains, any_from_contains, contains_head, contains_tail, contains_cases}

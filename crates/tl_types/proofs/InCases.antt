@@ -1,19 +1,17 @@
 -- A type is below another in one step exactly where one of the cases holds.
-use Rattle.std.proofs.Common.{◌≡◌, ℕ, Bool, true, false, ◌&&◌, ◌||◌, List, [], ◌∷◌, refl, sym, ap, ◌∙◌, subst, map, ◌⊎◌, inl, inr, zero, suc, ◌<◌, length, get_or, arith}
-use Rattle.std.specs.Prelude.{Contains, bytes_eq, slice_index_or}
-use Rattle.std.specs.Ordering.{int_eq}
-use Rattle.std.specs.List.{list_any, list_all}
+use Rattle.std.proofs.Common.{◌≡◌, ℕ, Bool, true, false, ◌&&◌, ◌||◌, List, [], ◌∷◌, refl, sym, ap, ◌∙◌, subst, map, inl, inr, zero, suc, ◌<◌, length, get_or, arith}
+use Rattle.std.specs.Prelude.{Contains, slice_index_or}
+use Rattle.std.specs.List.{list_any}
 use Rattle.std.proofs.lemmas.Bool.{and_parts, and_from, false≢true, or_cases}
 use Rattle.std.proofs.lemmas.Bool.Decides.{Decides-int_eq}
 use Rattle.std.proofs.lemmas.Slice.Eq.{bytes_eq-Decides}
 use Rattle.tl_types.specs.declared.types.Ty.{Ty, out-Ty, roll-Ty, map-Ty, ind-Ty}
 use Rattle.tl_types.specs.declared.types.Ty.TheVariants as ty
 use Rattle.tl_types.specs.declared.types.Ty.TheOpen.{Ty-F, Nil, True, False, Int, IntLit, Str, StrLit, Value, Any, Union, Func, Rec, Map, Iface}
-use Rattle.tl_types.specs.declared.types.FuncOf.{FuncOf}
-use Rattle.tl_types.specs.Types.{Field, Bodies, members, unfolded, unfold_form}
+use Rattle.tl_types.specs.Types.{Bodies, members, unfolded, unfold_form}
 use Rattle.tl_types.specs.Unions.{is_any, is_any_form}
-use Rattle.tl_types.specs.Below.{Test, form_below, function_below, record_below, tuple_below, results_below, map_below, member_below, step}
-use Rattle.tl_types.specs.Cases.{Relation, IsNoUnion, IsBase, is_base_form, Case, to_value, to_any, from_union, to_union, same_base, integer_literal, string_literal, functions, records, maps, from_any, EachPlace, EachTuple, EachField}
+use Rattle.tl_types.specs.Below.{Test, form_below, tuple_below, results_below, member_below, step}
+use Rattle.tl_types.specs.Cases.{IsNoUnion, is_base_form, Case, to_value, to_any, from_union, to_union, same_base, integer_literal, string_literal, functions, records, maps, from_any}
 use Rattle.tl_types.proofs.Alike.{roll_out}
 use Rattle.tl_types.proofs.Bools.{or_left, or_right, or_implies, any_flat}
 use Rattle.tl_types.proofs.Lists.{all_contains, all_from_contains, any_contains, any_from_contains}

@@ -1,14 +1,12 @@
 -- One step of the orders, by the forms of the two types.
-use Rattle.std.proofs.Common.{◌≡◌, ℕ, Bool, true, false, ◌&&◌, ◌||◌, List, [], ◌∷◌, refl, sym, ap, ◌∙◌}
-use Rattle.std.specs.Prelude.{flat_map}
+use Rattle.std.proofs.Common.{◌≡◌, Bool, true, false, ◌&&◌, ◌||◌, List, refl, sym, ap, ◌∙◌}
 use Rattle.std.specs.List.{list_any, list_all}
-use Rattle.tl_types.specs.declared.types.Ty.{Ty, out-Ty, roll-Ty}
+use Rattle.tl_types.specs.declared.types.Ty.{Ty, roll-Ty}
 use Rattle.tl_types.specs.declared.types.Ty.TheVariants as ty
-use Rattle.tl_types.specs.declared.types.Ty.TheOpen.{Ty-F, Nil, True, False, Int, IntLit, Str, StrLit, Value, Any, Union, Func, Rec, Map, Iface}
-use Rattle.tl_types.specs.declared.types.FuncOf.{FuncOf}
-use Rattle.tl_types.specs.Types.{Field, Bodies, members, unfolded, unfold_form}
+use Rattle.tl_types.specs.declared.types.Ty.TheOpen.{Ty-F}
+use Rattle.tl_types.specs.Types.{Bodies, members, unfolded, unfold_form}
 use Rattle.tl_types.specs.Unions.{is_any, is_any_form}
-use Rattle.tl_types.specs.Below.{Test, form_below, function_below, record_below, map_below, member_below, step}
+use Rattle.tl_types.specs.Below.{Test, form_below, member_below, step}
 use Rattle.tl_types.specs.Cases.{IsNoUnion}
 use Rattle.tl_types.proofs.Bools.{all_flat, any_flat}
 use Rattle.tl_types.proofs.Lists.{any_same}

@@ -1,16 +1,16 @@
 -- The size and the depth of a type by its form, and of what stands in one.
-use Rattle.std.proofs.Common.{◌≡◌, ℕ, ◌+◌, ◌*◌, ◌<◌, ◌≤◌, Bool, true, false, List, [], ◌∷◌, ◌++◌, refl, sym, ap, ◌∙◌, map, length, get_or, take, arith}
+use Rattle.std.proofs.Common.{◌≡◌, ℕ, ◌+◌, List, [], ◌∷◌, ◌++◌, refl, sym, ap, ◌∙◌, map, arith}
 use Rattle.std.specs.Prelude.{sum, sum_by, max, flat_map, fold}
-use Rattle.std.proofs.lemmas.List.Sums.{sum_by-append, sum_by-cons, sum-map, get_or-le-sum_by, sum_by_push, fold-append}
+use Rattle.std.proofs.lemmas.List.Sums.{sum_by-append, sum_by-cons, sum-map, sum_by_push, fold-append}
 use Rattle.std.proofs.lemmas.List.Folds.{fold-map}
-use Rattle.tl_types.specs.declared.types.Ty.{Ty, out-Ty, roll-Ty, map-Ty, fold-roll-Ty}
-use Rattle.tl_types.specs.declared.types.Ty.TheOpen.{Ty-F, Nil, True, False, Int, IntLit, Str, StrLit, Value, Any, Union, Func, Rec, Map, Iface}
+use Rattle.tl_types.specs.declared.types.Ty.{Ty, roll-Ty, map-Ty, fold-roll-Ty}
+use Rattle.tl_types.specs.declared.types.Ty.TheOpen.{Ty-F, Union, Func, Rec, Map}
 use Rattle.tl_types.specs.declared.types.Ty.TheVariants as ty
 use Rattle.tl_types.specs.declared.types.FieldOf.{FieldOf}
 use Rattle.tl_types.specs.declared.types.TupleOf.{TupleOf}
 use Rattle.tl_types.specs.declared.types.FuncOf.{FuncOf}
 use Rattle.tl_types.specs.Sizes.{type_size, type_depth, components, in_tuple, greatest}
-use Rattle.tl_types.specs.Parts.{size_tuple, size_func, depth_tuple, depth_func, deepest}
+use Rattle.tl_types.specs.Parts.{size_func, depth_func, deepest}
 
 abbrev field_map : {S X : Type 0} → (S → X) → FieldOf S → FieldOf X
 field_map f g = record { name = g.name; is_const = g.is_const; ty = f g.ty }

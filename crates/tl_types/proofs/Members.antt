@@ -1,9 +1,9 @@
 -- What the members of a type are, by its form.
 use Rattle.std.proofs.lemmas.Bool.{and_from}
-use Rattle.std.proofs.Common.{map, ◌≡◌, ℕ, Bool, true, false, ◌&&◌, ◌||◌, List, [], ◌∷◌, ◌++◌, refl, sym, ap, ◌∙◌, subst}
+use Rattle.std.proofs.Common.{map, ◌≡◌, Bool, true, false, ◌&&◌, List, [], ◌∷◌, ◌++◌, refl, sym, ap, ◌∙◌, subst}
 use Rattle.std.specs.Prelude.{flat_map}
-use Rattle.std.specs.List.{list_any, list_all}
-use Rattle.std.proofs.lemmas.List.Folds.{list_all-append, list_any-append}
+use Rattle.std.specs.List.{list_all}
+use Rattle.std.proofs.lemmas.List.Folds.{list_all-append}
 use Rattle.tl_types.specs.declared.types.Ty.{Ty, out-Ty, roll-Ty, map-Ty, ind-Ty}
 use Rattle.tl_types.specs.declared.types.Ty.TheOpen.{Ty-F, Nil, True, False, Int, IntLit, Str, StrLit, Value, Any, Union, Func, Rec, Map, Iface}
 use Rattle.tl_types.specs.declared.types.Ty.TheBlock.{hidden-the_row-Ty-0}

@@ -1,15 +1,15 @@
 -- What is below by one test is below by any test that holds wherever the first does.
-use Rattle.std.proofs.Common.{◌≡◌, ℕ, zero, suc, Bool, true, false, ◌&&◌, ◌||◌, not, List, [], ◌∷◌, refl, sym, ap, ◌∙◌, max, length}
+use Rattle.std.proofs.Common.{◌≡◌, ℕ, zero, suc, Bool, true, false, ◌&&◌, ◌||◌, not, List, refl, max, length}
 use Rattle.std.specs.Prelude.{Option, Some, None}
-use Rattle.std.specs.List.{list_any, list_all}
-use Rattle.std.proofs.lemmas.Bool.{and_parts, and_from, false≢true}
-use Rattle.tl_types.specs.declared.types.Ty.{Ty, out-Ty}
-use Rattle.tl_types.specs.declared.types.Ty.TheOpen.{Ty-F, Nil, True, False, Int, IntLit, Str, StrLit, Value, Any, Union, Func, Rec, Map, Iface}
+use Rattle.std.specs.List.{list_any}
+use Rattle.std.proofs.lemmas.Bool.{false≢true}
+use Rattle.tl_types.specs.declared.types.Ty.{Ty}
+use Rattle.tl_types.specs.declared.types.Ty.TheOpen.{Ty-F, Func, Rec, Map}
 use Rattle.tl_types.specs.declared.types.TupleOf.{TupleOf}
 use Rattle.tl_types.specs.declared.types.FuncOf.{FuncOf}
 use Rattle.tl_types.specs.Types.{Field, Bodies, members, unfolded}
 use Rattle.tl_types.specs.Unions.{is_any, or_nil, tuple_place}
-use Rattle.tl_types.specs.Below.{Test, field_below, has_below, named, record_below, places_below, tuple_below, results_below, function_below, map_below, form_below, member_below, step, below, IsBelow}
+use Rattle.tl_types.specs.Below.{Test, field_below, has_below, named, record_below, places_below, tuple_below, results_below, function_below, map_below, form_below, member_below, step, below}
 use Rattle.tl_types.proofs.Bools.{and_implies, or_implies, all_implies, any_implies}
 
 abbrev pub Implies : Test → Test → Type 0

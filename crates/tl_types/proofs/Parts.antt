@@ -1,13 +1,12 @@
 -- Comparisons of fields, of records and of results, taken apart.
-use Rattle.std.proofs.Common.{◌≡◌, ℕ, Bool, true, false, ◌&&◌, ◌||◌, not, List, [], ◌∷◌, refl, sym, ap, ◌∙◌, subst}
-use Rattle.std.specs.Prelude.{Option, Some, None, Contains}
-use Rattle.std.specs.List.{list_any, list_all}
+use Rattle.std.proofs.Common.{◌≡◌, Bool, true, false, ◌&&◌, ◌||◌, not, List, refl, ap, ◌∙◌, subst}
+use Rattle.std.specs.Prelude.{Option, Some, None}
+use Rattle.std.specs.List.{list_any}
 use Rattle.std.proofs.lemmas.Bool.{and_parts, and_from, false≢true}
 use Rattle.tl_types.specs.declared.types.Ty.{Ty}
 use Rattle.tl_types.specs.declared.types.TupleOf.{TupleOf}
-use Rattle.tl_types.specs.declared.types.FuncOf.{FuncOf}
 use Rattle.tl_types.specs.Types.{Field}
-use Rattle.tl_types.specs.Below.{Test, field_below, has_below, named, record_below, tuple_below, results_below, function_below, map_below}
+use Rattle.tl_types.specs.Below.{Test, field_below, has_below, named, record_below, tuple_below, results_below, map_below}
 use Rattle.tl_types.specs.Cases.{Relation, EachPlace, EachTuple, FieldBelow, EachField}
 use Rattle.tl_types.proofs.Lists.{all_contains, all_from_contains, any_contains, any_from_contains}
 use Rattle.tl_types.proofs.Places.{place_of_tuple, tuple_of_places}

@@ -1,7 +1,7 @@
 -- The places of a tuple: past the list each is the union of the tail and `nil`, and tuples are compared place by place.
-use Rattle.std.proofs.Common.{◌≡◌, ℕ, zero, suc, ◌<◌, ◌≤◌, Bool, true, ◌&&◌, List, [], ◌∷◌, refl, sym, ap, ◌∙◌, subst, get_or, length, max, ◌⊎◌, inl, inr, arith}
-use Rattle.std.specs.Prelude.{slice_get, Option, Some, None}
-use Rattle.std.proofs.lemmas.Bool.{and_parts, and_from, cases_lt, cases_order}
+use Rattle.std.proofs.Common.{◌≡◌, ℕ, zero, suc, ◌<◌, ◌≤◌, true, List, [], ◌∷◌, refl, sym, subst, get_or, length, max, inl, inr, arith}
+use Rattle.std.specs.Prelude.{slice_get, None}
+use Rattle.std.proofs.lemmas.Bool.{and_parts, and_from, cases_lt}
 use Rattle.tl_types.specs.declared.types.Ty.{Ty}
 use Rattle.tl_types.specs.declared.types.TupleOf.{TupleOf}
 use Rattle.tl_types.specs.Unions.{or_nil, tuple_place}

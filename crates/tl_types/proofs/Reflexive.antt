@@ -1,19 +1,18 @@
 -- Each type is below itself.
-use Rattle.std.proofs.Common.{◌≡◌, ℕ, zero, suc, Bool, true, false, ◌&&◌, ◌||◌, not, List, [], ◌∷◌, ◌++◌, refl, sym, ap, ◌∙◌, max, length}
-use Rattle.std.specs.Prelude.{Option, Some, None, bytes_eq, slice_index_or}
-use Rattle.std.specs.Ordering.{int_eq}
+use Rattle.std.proofs.Common.{◌≡◌, ℕ, zero, suc, Bool, true, false, ◌&&◌, ◌||◌, not, List, [], ◌∷◌, refl, ap, ◌∙◌, max, length}
+use Rattle.std.specs.Prelude.{Option, Some, None, slice_index_or}
 use Rattle.std.specs.List.{list_any, list_all}
-use Rattle.std.proofs.lemmas.Bool.{and_parts, and_from, false≢true}
+use Rattle.std.proofs.lemmas.Bool.{and_from, false≢true}
 use Rattle.std.proofs.lemmas.Bool.Decides.{Decides-int_eq}
 use Rattle.std.proofs.lemmas.Slice.Eq.{bytes_eq-Decides}
 use Rattle.tl_types.specs.declared.types.Ty.{Ty, out-Ty}
 use Rattle.tl_types.specs.declared.types.Ty.TheOpen.{Ty-F, Nil, True, False, Int, IntLit, Str, StrLit, Value, Any, Union, Func, Rec, Map, Iface}
 use Rattle.tl_types.specs.declared.types.TupleOf.{TupleOf}
 use Rattle.tl_types.specs.declared.types.FuncOf.{FuncOf}
-use Rattle.tl_types.specs.Types.{Field, Bodies, members, unfolded, unfold_form}
+use Rattle.tl_types.specs.Types.{Field, Bodies, members, unfold_form}
 use Rattle.tl_types.specs.Unions.{is_any, or_nil, tuple_place}
-use Rattle.tl_types.specs.Below.{Test, field_below, has_below, named, record_below, places_below, tuple_below, results_below, function_below, map_below, form_below, member_below, step, below, IsBelow}
-use Rattle.tl_types.proofs.Bools.{or_left, or_right, all_implies, all_within}
+use Rattle.tl_types.specs.Below.{Test, field_below, has_below, named, record_below, places_below, tuple_below, results_below, function_below, map_below, form_below, member_below, step, below}
+use Rattle.tl_types.proofs.Bools.{or_right, all_implies, all_within}
 use Rattle.tl_types.proofs.Members.{is_single, is_single_form, members_single}
 
 all_true : {X : Type 0} (p : X → Bool) → ((x : X) → p x ≡ true) → (xs : List X) → list_all p xs ≡ true

@@ -1,19 +1,18 @@
 -- Plain subtyping passes on: what is below a type is below what that type is below.
-use Rattle.std.proofs.Common.{◌≡◌, ℕ, zero, suc, Bool, true, false, ◌&&◌, ◌||◌, not, List, [], ◌∷◌, ◌++◌, refl, sym, ap, ◌∙◌, subst, max, length, cond, ◌⊎◌, inl, inr}
-use Rattle.std.specs.Prelude.{Option, Some, None, bytes_eq, find}
-use Rattle.std.specs.Ordering.{int_eq}
+use Rattle.std.proofs.Common.{◌≡◌, ℕ, zero, suc, Bool, true, false, ◌&&◌, ◌||◌, not, List, [], ◌∷◌, refl, sym, ap, ◌∙◌, subst, cond, inl, inr}
+use Rattle.std.specs.Prelude.{Option, Some, None, bytes_eq}
 use Rattle.std.specs.List.{list_any, list_all}
 use Rattle.std.proofs.lemmas.Bool.{and_parts, and_from, false≢true, or_cases}
 use Rattle.std.proofs.lemmas.Bool.Decides.{Decides-int_eq}
 use Rattle.std.proofs.lemmas.Slice.Eq.{bytes_eq-Decides}
-use Rattle.tl_types.specs.declared.types.Ty.{Ty, out-Ty}
-use Rattle.tl_types.specs.declared.types.Ty.TheOpen.{Ty-F, Nil, True, False, Int, IntLit, Str, StrLit, Value, Any, Union, Func, Rec, Map, Iface}
+use Rattle.tl_types.specs.declared.types.Ty.{Ty}
+use Rattle.tl_types.specs.declared.types.Ty.TheOpen.{Ty-F, Nil, True, False, Int, IntLit, Str, StrLit, Value, Any, Func, Rec, Map}
 use Rattle.tl_types.specs.declared.types.TupleOf.{TupleOf}
 use Rattle.tl_types.specs.declared.types.FuncOf.{FuncOf}
 use Rattle.tl_types.specs.Types.{Field, Bodies, members, unfolded}
-use Rattle.tl_types.specs.Unions.{is_any, or_nil, tuple_place}
-use Rattle.tl_types.specs.Below.{Test, field_below, has_below, named, record_below, places_below, tuple_below, results_below, function_below, map_below, form_below, member_below, step, below, IsBelow}
-use Rattle.tl_types.proofs.Bools.{or_left, or_right, and_implies, all_implies, any_of_all}
+use Rattle.tl_types.specs.Unions.{tuple_place}
+use Rattle.tl_types.specs.Below.{Test, field_below, has_below, named, record_below, tuple_below, results_below, function_below, map_below, form_below, member_below, step, below}
+use Rattle.tl_types.proofs.Bools.{or_left, or_right, all_implies}
 use Rattle.tl_types.proofs.Places.{place_of_tuple, tuple_of_places}
 
 any_passed : {X : Type 0} (R : X → X → Bool) → ((x y z : X) → R x y ≡ true → R y z ≡ true → R x z ≡ true) → (x y : X) (zs : List X) → R x y ≡ true → list_any (R y) zs ≡ true → list_any (R x) zs ≡ true

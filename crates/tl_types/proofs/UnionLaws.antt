@@ -1,18 +1,18 @@
 -- The members of a union, and what is below a union and above it.
-use Rattle.std.proofs.Common.{◌≡◌, ℕ, zero, suc, Bool, true, false, ◌&&◌, ◌||◌, not, cond, List, [], ◌∷◌, ◌++◌, refl, sym, ap, ◌∙◌, subst, ◌⊎◌, inl, inr, map}
+use Rattle.std.proofs.Common.{◌≡◌, ℕ, Bool, true, false, ◌&&◌, ◌||◌, not, cond, List, [], ◌∷◌, ◌++◌, refl, sym, ap, ◌∙◌, subst, ◌⊎◌, inl, inr}
 use Rattle.std.specs.Prelude.{flat_map, filter, Contains}
 use Rattle.std.specs.List.{list_any, list_all}
-use Rattle.std.proofs.lemmas.Bool.{and_parts, and_from, false≢true, or_cases}
+use Rattle.std.proofs.lemmas.Bool.{and_parts, and_from, false≢true}
 use Rattle.tl_types.specs.declared.types.Ty.{Ty, out-Ty, roll-Ty}
 use Rattle.tl_types.specs.declared.types.Ty.TheVariants as ty
-use Rattle.tl_types.specs.declared.types.Ty.TheOpen.{Ty-F, Nil, True, False, Int, IntLit, Str, StrLit, Value, Any, Union, Func, Rec, Map, Iface}
+use Rattle.tl_types.specs.declared.types.Ty.TheOpen.{Ty-F, Int, IntLit, Str, StrLit, Value, Any, Union}
 use Rattle.tl_types.specs.Types.{Bodies, members, unfolded, unfold_form}
 use Rattle.tl_types.specs.Same.{same_type}
-use Rattle.tl_types.specs.Unions.{is_any, is_any_form, is_value, is_value_form, is_int, is_int_form, is_str, is_str_form, is_covered, is_covered_form, distinct, union_from, union_flat, union_form}
+use Rattle.tl_types.specs.Unions.{is_any, is_any_form, is_value, is_value_form, is_int, is_int_form, is_str, is_str_form, is_covered, is_covered_form, distinct, union_from, union_form}
 use Rattle.tl_types.specs.Below.{Test, form_below, member_below, step}
 use Rattle.tl_types.specs.Cases.{IsNoUnion}
-use Rattle.tl_types.proofs.Alike.{same_right, same_self, roll_out}
-use Rattle.tl_types.proofs.Bools.{or_left, or_right, or_implies, all_implies, any_implies, all_flat, any_flat}
+use Rattle.tl_types.proofs.Alike.{same_right, roll_out}
+use Rattle.tl_types.proofs.Bools.{or_left, or_right, or_implies, any_implies, all_flat, any_flat}
 use Rattle.tl_types.proofs.Lists.{all_contains, all_from_contains, any_contains, any_from_contains, contains_head, contains_tail, contains_cases, any_same}
 use Rattle.tl_types.proofs.Members.{members_union, members_one, members_single, is_single, is_single_form, out_of}
 use Rattle.tl_types.proofs.Layers.{form_of, any_of, step_single}

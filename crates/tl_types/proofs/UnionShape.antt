@@ -1,11 +1,11 @@
 -- The shape of a union: flat, each member once, no literal beside its base type, and nothing lost.
-use Rattle.std.proofs.Common.{◌≡◌, ℕ, Bool, true, false, ◌&&◌, ◌||◌, not, cond, List, [], ◌∷◌, refl, sym, ap, ◌∙◌, subst, ◌⊎◌, inl, inr}
+use Rattle.std.proofs.Common.{◌≡◌, ℕ, Bool, true, false, not, cond, List, [], ◌∷◌, refl, sym, ap, ◌∙◌, subst, inl, inr}
 use Rattle.std.specs.Prelude.{flat_map, filter, Contains}
 use Rattle.std.specs.List.{list_any, list_all, IsDistinct, AllByRecursion}
 use Rattle.std.proofs.lemmas.Bool.{and_parts, and_from, false≢true}
-use Rattle.tl_types.specs.declared.types.Ty.{Ty, out-Ty, roll-Ty}
+use Rattle.tl_types.specs.declared.types.Ty.{Ty, out-Ty}
 use Rattle.tl_types.specs.declared.types.Ty.TheVariants as ty
-use Rattle.tl_types.specs.declared.types.Ty.TheOpen.{Ty-F, Nil, True, False, Int, IntLit, Str, StrLit, Value, Any, Union, Func, Rec, Map, Iface}
+use Rattle.tl_types.specs.declared.types.Ty.TheOpen.{Int, IntLit, Str, StrLit, Value, Any, Union}
 use Rattle.tl_types.specs.Types.{members}
 use Rattle.tl_types.specs.Same.{same_type}
 use Rattle.tl_types.specs.Unions.{is_any, is_value, is_int, is_int_form, is_str, is_str_form, is_covered, is_covered_form, distinct, union_from, union_form}
@@ -13,7 +13,7 @@ use Rattle.tl_types.specs.Cases.{IsNoUnion}
 use Rattle.tl_types.proofs.Alike.{same_right, same_self}
 use Rattle.tl_types.proofs.Lists.{all_contains, any_contains, any_from_contains}
 use Rattle.tl_types.proofs.Members.{is_single, is_single_form, out_of}
-use Rattle.tl_types.proofs.UnionLaws.{cases, other, bare, not_true, all_kept, any_kept, kept_contains, any_distinct, single_no_union, left_of, left_single, union_plain, all_members, union_any, union_value}
+use Rattle.tl_types.proofs.UnionLaws.{cases, other, bare, not_true, any_kept, kept_contains, any_distinct, single_no_union, left_of, left_single, union_plain, all_members, union_any, union_value}
 
 union_same : (xs us : List Ty) → ty.Union xs ≡ ty.Union us → xs ≡ us
 union_same xs us e =

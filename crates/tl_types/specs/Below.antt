@@ -1,11 +1,10 @@
 -- The two orders between types, step by step, and how a type flows to another.
 -- A step compares two types, where a test compares their components; the order to depth n takes n steps, and the order itself is that to every depth.
-use Rattle.std.specs.Prelude.{◌≡◌, ℕ, zero, suc, ◌+◌, max, ⊤, Bool, true, false, not, ◌&&◌, ◌||◌, ◌↔◌, List, [], ◌∷◌, length, find, bytes_eq, Option, Some, None}
+use Rattle.std.specs.Prelude.{◌≡◌, ℕ, zero, suc, max, Bool, true, false, not, ◌&&◌, ◌||◌, List, length, find, bytes_eq, Option, Some, None}
 use Rattle.std.specs.List.{list_any, list_all}
 use Rattle.std.specs.Ordering.{int_eq}
-use Rattle.tl_types.specs.declared.types.Ty.{Ty, out-Ty}
-use Rattle.tl_types.specs.declared.types.Ty.TheOpen.{Ty-F, Nil, True, False, Int, IntLit, Str, StrLit, Value, Any, Union, Func, Rec, Map, Iface}
-use Rattle.tl_types.specs.declared.types.FieldOf.{FieldOf}
+use Rattle.tl_types.specs.declared.types.Ty.{Ty}
+use Rattle.tl_types.specs.declared.types.Ty.TheOpen.{Ty-F, Nil, True, False, Int, IntLit, Str, StrLit, Value, Any, Func, Rec, Map}
 use Rattle.tl_types.specs.declared.types.TupleOf.{TupleOf}
 use Rattle.tl_types.specs.declared.types.FuncOf.{FuncOf}
 use Rattle.tl_types.specs.declared.flow.Flow.{Flow}

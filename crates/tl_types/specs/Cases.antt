@@ -2,7 +2,7 @@
 use Rattle.std.specs.Prelude.{◌≡◌, ℕ, ℤ, Bool, true, false, List, Contains, Some}
 use Rattle.tl_types.specs.declared.types.Ty.{Ty, out-Ty}
 use Rattle.tl_types.specs.declared.types.Ty.TheVariants as ty
-use Rattle.tl_types.specs.declared.types.Ty.TheOpen.{Ty-F, Nil, True, False, Int, IntLit, Str, StrLit, Value, Any, Union, Func, Rec, Map, Iface}
+use Rattle.tl_types.specs.declared.types.Ty.TheOpen.{Ty-F, Nil, True, False, Int, IntLit, Str, StrLit, Rec}
 use Rattle.tl_types.specs.declared.types.TupleOf.{TupleOf}
 use Rattle.tl_types.specs.declared.types.FuncOf.{FuncOf}
 use Rattle.tl_types.specs.Types.{Field, Bodies, unfolded}

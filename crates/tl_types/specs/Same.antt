@@ -1,5 +1,5 @@
 -- Whether two types are the same tree, with interfaces compared by their numbers.
-use Rattle.std.specs.Prelude.{ℕ, Bool, true, false, ◌&&◌, not, List, [], ◌∷◌, nat_eq, bytes_eq}
+use Rattle.std.specs.Prelude.{Bool, true, false, ◌&&◌, not, List, [], ◌∷◌, nat_eq, bytes_eq}
 use Rattle.std.specs.Ordering.{int_eq}
 use Rattle.tl_types.specs.declared.types.Ty.{Ty, out-Ty, fold-Ty}
 use Rattle.tl_types.specs.declared.types.Ty.TheOpen.{Ty-F, Nil, True, False, Int, IntLit, Str, StrLit, Value, Any, Union, Func, Rec, Map, Iface}

@@ -1,9 +1,8 @@
 -- The size and the depth of a type, and the limits of both.
 use Rattle.std.specs.Prelude.{ℕ, ◌+◌, max, Bool, ◌&&◌, nat_le, List, [], ◌∷◌, map, sum, fold, flat_map, ◌++◌}
 use Rattle.tl_types.specs.declared.types.Ty.{Ty, fold-Ty}
-use Rattle.tl_types.specs.declared.types.Ty.TheOpen.{Ty-F, Nil, True, False, Int, IntLit, Str, StrLit, Value, Any, Union, Func, Rec, Map, Iface}
+use Rattle.tl_types.specs.declared.types.Ty.TheOpen.{Ty-F, Union, Func, Rec, Map}
 use Rattle.tl_types.specs.declared.types.TupleOf.{TupleOf}
-use Rattle.tl_types.specs.declared.types.FuncOf.{FuncOf}
 
 -- the components of one level, in order of place: the members of a union, the types and tails of a function's tuples, a record's field types,
 -- a map's key and value

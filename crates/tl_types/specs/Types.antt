@@ -1,7 +1,7 @@
 -- What stands in a type: the members of a union, the place of a tuple, the record of an interface.
-use Rattle.std.specs.Prelude.{ℕ, Bool, true, false, List, [], ◌∷◌, ◌++◌, slice_index_or}
+use Rattle.std.specs.Prelude.{List, [], ◌∷◌, ◌++◌, slice_index_or}
 use Rattle.tl_types.specs.declared.types.Ty.{Ty, out-Ty, Union', Row_of-Ty, end_of-Ty, more_of-Ty}
-use Rattle.tl_types.specs.declared.types.Ty.TheOpen.{Ty-F, Nil, True, False, Int, IntLit, Str, StrLit, Value, Any, Union, Func, Rec, Map, Iface}
+use Rattle.tl_types.specs.declared.types.Ty.TheOpen.{Ty-F, Rec, Iface}
 use Rattle.tl_types.specs.declared.types.FieldOf.{FieldOf}
 
 abbrev pub Field : Type 0

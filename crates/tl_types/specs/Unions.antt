@@ -1,9 +1,9 @@
 -- The union of types, the general form of a type, and the places of tuples.
-use Rattle.std.specs.Prelude.{ℕ, Bool, true, false, cond, not, ◌&&◌, ◌||◌, List, [], ◌∷◌, map, filter, flat_map, slice_index_or}
+use Rattle.std.specs.Prelude.{ℕ, Bool, true, false, cond, not, List, [], ◌∷◌, map, filter, flat_map, slice_index_or}
 use Rattle.std.specs.List.{list_any}
 use Rattle.tl_types.specs.declared.types.Ty.{Ty, out-Ty}
 use Rattle.tl_types.specs.declared.types.Ty.TheVariants as ty
-use Rattle.tl_types.specs.declared.types.Ty.TheOpen.{Ty-F, Nil, True, False, Int, IntLit, Str, StrLit, Value, Any, Union, Func, Rec, Map, Iface}
+use Rattle.tl_types.specs.declared.types.Ty.TheOpen.{Ty-F, True, False, Int, IntLit, Str, StrLit, Value, Any}
 use Rattle.tl_types.specs.declared.types.TupleOf.{TupleOf}
 use Rattle.tl_types.specs.declared.types.ResultsOf.{ResultsOf}
 use Rattle.tl_types.specs.Types.{members}

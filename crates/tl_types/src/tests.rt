@@ -171,13 +171,13 @@ fn with_members(alloc: Global, words: &str) -> Result<Ty, NoMemory> {
 #[test]
 fn unions_have_the_members_of_the_table(rt: HostRuntime) -> Result<(), Fail> {
     let alloc = rt.alloc();
-    let mut rows = 0;
+    let mut rows = 0_u32;
     for line in UNIONS.lines() {
         if let Some((given, wanted)) = line.split_once(':') {
             let union = union_of(alloc, &types_of(alloc, given)?)?;
             let wanted = with_members(alloc, wanted)?;
             assert!(rt; same(&union, &wanted), "{line} gives {union:?}");
-            rows += 1;
+            rows = u32::saturating_add(rows, 1);
         }
     }
     assert_eq!(rt; rows, 66);

@@ -1,6 +1,5 @@
 use Rattle.std.proofs.Common.{◌≡◌, sym, ap, ◌∙◌, subst, IfOk}
 use Rattle.std.specs.Option.{option_copied}
-use Rattle.tl_types.specs.declared.types.Ty.{Ty}
 use Rattle.tl_types.specs.Unions.{or_nil}
 use Rattle.tl_types.proofs.Places.{place_past}
 use Rattle.tl_types.proofs.unions.place.Goals as goal

@@ -1,4 +1,4 @@
-use Rattle.std.proofs.Common.{◌≡◌, sym, ap, ◌∙◌, subst, IfOk, OnOk, true, false, map, Err}
+use Rattle.std.proofs.Common.{◌≡◌, ap, ◌∙◌, subst, OnOk, true, false, map, Err}
 use Rattle.std.proofs.lemmas.List.{take_all}
 use Rattle.tl_types.specs.declared.types.TyError.TheVariants as ty_error
 use Rattle.tl_types.specs.Sizes.{is_within}
