@@ -1,0 +1,8 @@
+//! Whether one type is below another, recursive interfaces included. Pairs of components are assumed to hold until they fail, and those that fail
+//! are taken back, until nothing more is.
+#![tactic(auto)]
+
+mod pairs;
+
+use tl_base::NoMemory;
+use tl_types::{Field, Func, Interfaces, Results, Tuple, Ty};
