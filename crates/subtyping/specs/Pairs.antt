@@ -1,5 +1,5 @@
 -- Pairs of types that are assumed to be below one another, and what a comparison that assumes more of them says.
-use Rattle.std.specs.Prelude.{◌≡◌, ℕ, ◌<◌, ◌≤◌, ◌+◌, Bool, true, false, List, ◌++◌, length, All, slice_get, Option, Some, Result, Ok, IfOk}
+use Rattle.std.specs.Prelude.{◌≡◌, ℕ, ◌<◌, ◌≤◌, ◌+◌, Bool, true, false, List, ◌++◌, length, All, slice_get, slice_index_or, Option, Some, Result, Ok, IfOk}
 use Rattle.tl_base.specs.declared.memory.NoMemory.{NoMemory}
 use Rattle.tl_types.specs.declared.types.Ty.{Ty}
 use Rattle.tl_types.specs.Types.{Bodies}
@@ -57,3 +57,9 @@ pub record Settled (loose : Bool) (bodies : Bodies) (old new : List Pair) (k : �
   pub added : answer ≡ Ok false → (more : List Pair) × (new ≡ old ++ more)
   pub grows : answer ≡ Ok false → (R : Test) → Trusts R new → Trusts R old
   pub closed : answer ≡ Ok false → (p : Pair) → slice_get old k ≡ Some p → p.alive ≡ true → Follows loose bodies new p
+
+-- the pair at k has these sides
+pub record IsPairAt (pairs : List Pair) (left right : Side) (k : ℕ) : Type 0 where
+  pub within : k < length pairs
+  pub lefts : (d : Pair) → side_ty (slice_index_or pairs k d).left ≡ side_ty left
+  pub rights : (d : Pair) → side_ty (slice_index_or pairs k d).right ≡ side_ty right

@@ -2,7 +2,9 @@
 //! are taken back, until nothing more is.
 #![tactic(auto)]
 
+mod marks;
 mod pairs;
 
+pub use pairs::{Assumed, Pair, Rules, Side};
 use tl_base::NoMemory;
-use tl_types::{Field, Func, Interfaces, Results, Tuple, Ty};
+use tl_types::Ty;
