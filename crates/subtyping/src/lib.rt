@@ -3,6 +3,7 @@
 #![tactic(auto)]
 
 mod marks;
+mod meet;
 mod pairs;
 
 pub use pairs::{Assumed, Pair, Rules, Side};
