@@ -76,6 +76,17 @@ module _ (loose : Bool) (bodies : Bodies) where
   pub same_claim : (f g : Claim) (x : Answer) (a b : List Pair) → ((R : Test) → f R ≡ g R) → After a b f x → After a b g x
   same_claim f g x a b same c = retarget f g x a b c (λ v is R e. sym (same R) ∙ e)
 
+  -- what is known of the answer
+  pub at_ok : (f : Claim) (x : Answer) (v b : Bool) (a d : List Pair) → After a d f x → x ≡ Ok v → v ≡ b → After a d f (Ok b)
+  at_ok f x v b a d c is value = subst (After a d f) (is ∙ ap Ok value) c
+
+  -- the answer is known whatever was compared before
+  pub settled : (f g : Claim) (x : Answer) (v : Bool) (a b : List Pair) → After a b f x → ((R : Test) → g R ≡ v) → After a b g (Ok v)
+  settled f g x v a b c same = record { added = c.added; grows = c.grows; sound = c.sound; verdict = λ s. record {
+      yes = λ e R trusts. same R ∙ e;
+      no = λ e. (0, same (below loose bodies 0) ∙ e)
+    } }
+
   pub and_then : (f g : Claim) (y : Answer) (a b d : List Pair) → After a b f (Ok true) → After b d g y → After a d (λ R. f R && g R) y
   and_then f g (Ok v) a b d one two = record { added = joined a b d one.added two.added; grows = λ R t. one.grows R (two.grows R t); sound = λ s. two.sound (one.sound s); verdict = λ s. let h = one.verdict s in let k = two.verdict (one.sound s) in record {
       yes = λ e R trusts. and_from (f R) (g R) (h.yes refl R (two.grows R trusts)) (k.yes e R trusts);

@@ -2,6 +2,7 @@
 //! are taken back, until nothing more is.
 #![tactic(auto)]
 
+mod compare;
 mod marks;
 mod meet;
 mod pairs;
