@@ -8,6 +8,8 @@ use Rattle.tl_types.specs.declared.types.FuncOf.{FuncOf}
 use Rattle.tl_types.specs.Types.{Field, Bodies, members, unfolded}
 use Rattle.tl_types.specs.Below.{Test, record_below, tuple_below, results_below, function_below, map_below, form_below, member_below}
 use Rattle.tl_types.specs.Cases.{FieldBelow}
+use Rattle.std.specs.List.{list_any}
+use Rattle.tl_types.proofs.Bools.{any_implies}
 use Rattle.tl_types.proofs.Mono.{Implies}
 use Rattle.tl_types.proofs.Parts.{Holds, tuple_apart, tuple_joined, results_apart, results_joined, record_apart, record_joined, map_apart, map_joined}
 
@@ -42,3 +44,7 @@ module _ (A B : Test) (to : Implies A B) where
 
   pub member_mono : (bodies : Bodies) (s t : Ty) → member_below bodies A s t ≡ true → member_below bodies B s t ≡ true
   member_mono bodies s t = form_mono (unfolded bodies s) (unfolded bodies t)
+
+-- the same of a type and the members of another
+pub some_mono : (bodies : Bodies) (s t : Ty) (A B : Test) → Implies A B → list_any (member_below bodies A s) (members t) ≡ true → list_any (member_below bodies B s) (members t) ≡ true
+some_mono bodies s t A B to = any_implies (member_below bodies A s) (member_below bodies B s) (λ u. member_mono A B to bodies s u) (members t)

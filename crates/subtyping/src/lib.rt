@@ -5,6 +5,7 @@
 mod compare;
 mod marks;
 mod meet;
+mod members;
 mod pairs;
 
 pub use pairs::{Assumed, Pair, Rules, Side};
