@@ -7,6 +7,7 @@ mod marks;
 mod meet;
 mod members;
 mod pairs;
+mod sweep;
 
 pub use pairs::{Assumed, Pair, Rules, Side};
 use tl_base::NoMemory;
