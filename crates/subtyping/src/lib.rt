@@ -6,9 +6,11 @@ mod compare;
 mod marks;
 mod meet;
 mod members;
+mod orders;
 mod pairs;
 mod sweep;
 
-pub use pairs::{Assumed, Pair, Rules, Side};
+pub use orders::{Orders, is_below};
+use pairs::{Assumed, Rules, Side};
 use tl_base::NoMemory;
 use tl_types::Ty;

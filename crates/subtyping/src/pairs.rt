@@ -12,14 +12,14 @@ use tl_types::{Field, same};
 
 /// A type that stands in the given ones, or the union of such a type and `nil`, which a place of a tuple past its list has.
 #[derive(Clone, Copy)]
-pub enum Side<'a> {
+pub(crate) enum Side<'a> {
     Of(&'a Ty),
     WithNil(&'a Ty),
 }
 
 /// Two types, of which the left one is assumed to be below the right one.
 #[derive(Clone, Copy)]
-pub struct Pair<'a> {
+pub(crate) struct Pair<'a> {
     pub left: Side<'a>,
     pub right: Side<'a>,
     /// Whether it is still assumed.
@@ -30,7 +30,7 @@ pub struct Pair<'a> {
 
 /// What a comparison is given beside the two types.
 #[derive(Clone, Copy)]
-pub struct Rules<'a> {
+pub(crate) struct Rules<'a> {
     /// Whether `any` is below every type.
     pub loose: bool,
     pub bodies: &'a [List<Field>],
@@ -40,7 +40,7 @@ pub struct Rules<'a> {
 
 /// The pairs that were met, in that order, and the latest one of each mark.
 #[derive(Drop)]
-pub struct Assumed<'a> {
+pub(crate) struct Assumed<'a> {
     pub pairs: Vec<Pair<'a>>,
     pub latest: HashMap<u64, usize>,
 }
