@@ -9,6 +9,8 @@ mod members;
 mod orders;
 mod pairs;
 mod sweep;
+#[cfg(test)]
+mod tests;
 
 pub use orders::{Orders, is_below};
 use pairs::{Assumed, Rules, Side};
