@@ -24,7 +24,13 @@ impl Consistent {
     }
 
     /// How type `a` flows to type `b`, where `plain` says whether it is a subtype.
-    pub fn flow(&mut self, interfaces: &Interfaces, a: &Ty, b: &Ty, plain: bool) -> Result<Flow, NoMemory>
+    pub fn flow(
+        &mut self,
+        interfaces: &Interfaces,
+        a: &Ty,
+        b: &Ty,
+        plain: bool,
+    ) -> Result<Flow, NoMemory>
         requires { (plain ≡ true) ↔ IsSubtype interfaces.now.bodies a.now b.now }
         ensures { IfOk result (IsFlow interfaces.now.bodies a.now b.now) }
     {

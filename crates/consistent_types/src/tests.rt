@@ -24,9 +24,21 @@ fn flows_are_those_of_the_table(rt: HostRuntime) -> Result<(), Fail> {
         (Ty::Any, Ty::Int, Flow::Crossing),
         (Ty::Int, Ty::Any, Flow::Plain),
         (Ty::Any, Ty::Union(List::new(alloc)), Flow::Crossing),
-        (record(alloc, Ty::Any)?, record(alloc, Ty::Int)?, Flow::Crossing),
-        (record(alloc, Ty::IntLit(1))?, record(alloc, Ty::Int)?, Flow::No),
-        (record(alloc, Ty::Int)?, record(alloc, Ty::Int)?, Flow::Plain),
+        (
+            record(alloc, Ty::Any)?,
+            record(alloc, Ty::Int)?,
+            Flow::Crossing,
+        ),
+        (
+            record(alloc, Ty::IntLit(1))?,
+            record(alloc, Ty::Int)?,
+            Flow::No,
+        ),
+        (
+            record(alloc, Ty::Int)?,
+            record(alloc, Ty::Int)?,
+            Flow::Plain,
+        ),
         (Ty::Iface(0), Ty::Rec(List::new(alloc)), Flow::Plain),
         (Ty::Int, Ty::Str, Flow::No),
     ] {

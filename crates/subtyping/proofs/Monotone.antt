@@ -1,8 +1,8 @@
 -- Comparisons say yes to more where components compare to more.
-use Rattle.std.proofs.Common.{◌≡◌, ℕ, Bool, true, false, ◌&&◌, List, refl}
-use Rattle.std.proofs.lemmas.Bool.{and_parts, and_from, false≢true}
-use Rattle.tl_types.specs.declared.types.Ty.{Ty, out-Ty}
-use Rattle.tl_types.specs.declared.types.Ty.TheOpen.{Ty-F, Nil, True, False, Int, IntLit, Str, StrLit, Value, Any, Union, Func, Rec, Map, Iface}
+use Rattle.std.proofs.Common.{◌≡◌, true, List}
+use Rattle.std.proofs.lemmas.Bool.{and_parts, and_from}
+use Rattle.tl_types.specs.declared.types.Ty.{Ty}
+use Rattle.tl_types.specs.declared.types.Ty.TheOpen.{Ty-F, Func, Rec, Map}
 use Rattle.tl_types.specs.declared.types.TupleOf.{TupleOf}
 use Rattle.tl_types.specs.declared.types.FuncOf.{FuncOf}
 use Rattle.tl_types.specs.Types.{Field, Bodies, members, unfolded}

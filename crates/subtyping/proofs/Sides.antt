@@ -1,15 +1,14 @@
 -- Unions on either side of a comparison, and the union of a type and `nil`.
-use Rattle.std.proofs.Common.{◌≡◌, ℕ, ◌<◌, ◌≤◌, Bool, true, false, ◌&&◌, ◌||◌, List, [], ◌∷◌, ◌++◌, refl, sym, ap, ◌∙◌, length, take}
+use Rattle.std.proofs.Common.{◌≡◌, Bool, true, false, ◌&&◌, ◌||◌, List, [], ◌∷◌, ◌++◌, refl, sym, ap, ◌∙◌}
 use Rattle.std.specs.Prelude.{flat_map}
 use Rattle.std.specs.List.{list_any, list_all}
-use Rattle.std.proofs.lemmas.Bool.{and_parts, and_from, false≢true}
-use Rattle.std.proofs.lemmas.List.{take_all}
+use Rattle.std.proofs.lemmas.Bool.{and_parts, and_from}
 use Rattle.std.proofs.lemmas.List.Folds.{list_any-append}
-use Rattle.tl_types.specs.declared.types.Ty.{Ty, out-Ty, roll-Ty}
+use Rattle.tl_types.specs.declared.types.Ty.{Ty}
 use Rattle.tl_types.specs.declared.types.Ty.TheVariants as ty
 use Rattle.tl_types.specs.declared.types.Ty.TheOpen.{Nil, Any}
 use Rattle.tl_types.specs.Types.{Bodies, members}
-use Rattle.tl_types.specs.Unions.{is_any, is_any_form, or_nil}
+use Rattle.tl_types.specs.Unions.{is_any, or_nil}
 use Rattle.tl_types.specs.Below.{Test, member_below, step}
 use Rattle.tl_types.specs.Cases.{IsNoUnion}
 use Rattle.tl_types.proofs.Bools.{or_left, any_flat}

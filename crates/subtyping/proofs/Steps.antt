@@ -1,18 +1,17 @@
 -- Comparisons one after the other: how their answers combine.
-use Rattle.std.proofs.Common.{◌≡◌, ℕ, zero, suc, ◌+◌, ◌<◌, ◌≤◌, Bool, true, false, ◌&&◌, ◌||◌, List, [], ◌∷◌, ◌++◌, refl, sym, ap, ◌∙◌, subst, length, get_or, take, append_assoc, arith, add-one}
-use Rattle.std.specs.Prelude.{Result, Ok, Err, IfOk, IsErr, All}
+use Rattle.std.proofs.Common.{◌≡◌, ℕ, zero, suc, ◌+◌, ◌<◌, ◌≤◌, Bool, true, false, ◌&&◌, ◌||◌, List, [], ◌∷◌, ◌++◌, refl, sym, ap, ◌∙◌, subst, length, get_or, take, append_assoc, arith}
+use Rattle.std.specs.Prelude.{Result, Ok, Err, IsErr}
 use Rattle.std.specs.List.{list_any, list_all}
-use Rattle.std.proofs.lemmas.Bool.{and_parts, and_from, and_right, and_left, false≢true, or_cases}
+use Rattle.std.proofs.lemmas.Bool.{and_from, and_right, and_left, false≢true}
 use Rattle.std.proofs.lemmas.List.{take_all}
 use Rattle.std.proofs.lemmas.List.Folds.{list_all_more, list_any_more}
 use Rattle.tl_base.specs.declared.memory.NoMemory.{NoMemory}
-use Rattle.tl_types.specs.declared.types.Ty.{Ty}
 use Rattle.tl_types.specs.Types.{Bodies}
 use Rattle.tl_types.specs.Below.{Test, below}
 use Rattle.tl_types.proofs.Mono.{Implies, below_falls}
 use Rattle.tl_types.proofs.Bools.{or_left, or_right, or_implies, any_implies}
 use Rattle.subtyping.specs.declared.pairs.Pair.{Pair}
-use Rattle.subtyping.specs.Pairs.{Trusts, IsSound, Verdict, Compared}
+use Rattle.subtyping.specs.Pairs.{Compared}
 
 abbrev pub Claim : Type 0
 Claim = Test → Bool
@@ -67,10 +66,15 @@ module _ (loose : Bool) (bodies : Bodies) where
   joined a b d one two = (one.0 ++ two.0, two.1 ∙ (ap (λ r. r ++ two.0) one.1 ∙ append_assoc a one.0 two.0))
 
   pub retarget : (f g : Claim) (x : Answer) (a b : List Pair) → After a b f x → ((v : Bool) → x ≡ Ok v → (R : Test) → f R ≡ v → g R ≡ v) → After a b g x
-  retarget f g (Ok v) a b c to = record { added = c.added; grows = c.grows; sound = c.sound; verdict = λ s. let h = c.verdict s in record {
+  retarget f g (Ok v) a b c to = record {
+    added = c.added;
+    grows = c.grows;
+    sound = c.sound;
+    verdict = λ s. let h = c.verdict s in record {
       yes = λ e R trusts. to v refl R (h.yes e R trusts ∙ sym e) ∙ e;
-      no = λ e. let n = h.no e in (n.0, to v refl (below loose bodies n.0) (n.1 ∙ sym e) ∙ e)
-    } }
+      no = λ e. let n = h.no e in (n.0, to v refl (below loose bodies n.0) (n.1 ∙ sym e) ∙ e);
+    };
+  }
   retarget f g (Err e) a b c to = record { added = c.added; grows = c.grows; sound = c.sound; verdict = λ s. tt }
 
   pub same_claim : (f g : Claim) (x : Answer) (a b : List Pair) → ((R : Test) → f R ≡ g R) → After a b f x → After a b g x
@@ -82,31 +86,48 @@ module _ (loose : Bool) (bodies : Bodies) where
 
   -- the answer is known whatever was compared before
   pub settled : (f g : Claim) (x : Answer) (v : Bool) (a b : List Pair) → After a b f x → ((R : Test) → g R ≡ v) → After a b g (Ok v)
-  settled f g x v a b c same = record { added = c.added; grows = c.grows; sound = c.sound; verdict = λ s. record {
+  settled f g x v a b c same = record {
+    added = c.added;
+    grows = c.grows;
+    sound = c.sound;
+    verdict = λ s. record {
       yes = λ e R trusts. same R ∙ e;
-      no = λ e. (0, same (below loose bodies 0) ∙ e)
-    } }
+      no = λ e. (0, same (below loose bodies 0) ∙ e);
+    };
+  }
 
   pub and_then : (f g : Claim) (y : Answer) (a b d : List Pair) → After a b f (Ok true) → After b d g y → After a d (λ R. f R && g R) y
-  and_then f g (Ok v) a b d one two = record { added = joined a b d one.added two.added; grows = λ R t. one.grows R (two.grows R t); sound = λ s. two.sound (one.sound s); verdict = λ s. let h = one.verdict s in let k = two.verdict (one.sound s) in record {
+  and_then f g (Ok v) a b d one two = record {
+    added = joined a b d one.added two.added;
+    grows = λ R t. one.grows R (two.grows R t);
+    sound = λ s. two.sound (one.sound s);
+    verdict = λ s. let h = one.verdict s in let k = two.verdict (one.sound s) in record {
       yes = λ e R trusts. and_from (f R) (g R) (h.yes refl R (two.grows R trusts)) (k.yes e R trusts);
-      no = λ e. let n = k.no e in (n.0, and_right (f (below loose bodies n.0)) (g (below loose bodies n.0)) n.1)
-    } }
+      no = λ e. let n = k.no e in (n.0, and_right (f (below loose bodies n.0)) (g (below loose bodies n.0)) n.1);
+    };
+  }
   and_then f g (Err e) a b d one two = record { added = joined a b d one.added two.added; grows = λ R t. one.grows R (two.grows R t); sound = λ s. two.sound (one.sound s); verdict = λ s. tt }
 
   pub and_stop : (f g : Claim) (a b : List Pair) → After a b f (Ok false) → After a b (λ R. f R && g R) (Ok false)
   and_stop f g a b one = retarget f (λ R. f R && g R) (Ok false) a b one (λ v is R e. let no : v ≡ false = cc in and_left (f R) (g R) (e ∙ no) ∙ sym no)
 
   pub or_else : (f g : Claim) → IsMono f → IsMono g → (y : Answer) (a b d : List Pair) → After a b f (Ok false) → After b d g y → After a d (λ R. f R || g R) y
-  or_else f g mono_f mono_g (Ok v) a b d one two = record { added = joined a b d one.added two.added; grows = λ R t. one.grows R (two.grows R t); sound = λ s. two.sound (one.sound s); verdict = λ s. let h = one.verdict s in let k = two.verdict (one.sound s) in record {
+  or_else f g mono_f mono_g (Ok v) a b d one two = record {
+    added = joined a b d one.added two.added;
+    grows = λ R t. one.grows R (two.grows R t);
+    sound = λ s. two.sound (one.sound s);
+    verdict = λ s. let h = one.verdict s in let k = two.verdict (one.sound s) in record {
       yes = λ e R trusts. or_right (f R) (g R) (k.yes e R trusts);
       no = λ e.
-        let m = h.no refl in
-        let n = k.no e in
-        let turned : m.0 + n.0 ≡ n.0 + m.0 = omega arith in
-        (m.0 + n.0, neither (f (below loose bodies (m.0 + n.0))) (g (below loose bodies (m.0 + n.0)))
-            (subst (λ i. f (below loose bodies i) ≡ false) (sym turned) (deeper f mono_f n.0 m.0 m.1)) (deeper g mono_g m.0 n.0 n.1))
-    } }
+          let m = h.no refl in
+          let n = k.no e in
+          let turned : m.0 + n.0 ≡ n.0 + m.0 = omega arith in (
+            m.0 + n.0,
+            neither (f (below loose bodies (m.0 + n.0))) (g (below loose bodies (m.0 + n.0)))
+                (subst (λ i. f (below loose bodies i) ≡ false) (sym turned) (deeper f mono_f n.0 m.0 m.1)) (deeper g mono_g m.0 n.0 n.1),
+          );
+    };
+  }
   or_else f g mono_f mono_g (Err e) a b d one two = record { added = joined a b d one.added two.added; grows = λ R t. one.grows R (two.grows R t); sound = λ s. two.sound (one.sound s); verdict = λ s. tt }
 
   pub or_hit : (f g : Claim) (a b : List Pair) → After a b f (Ok true) → After a b (λ R. f R || g R) (Ok true)
@@ -123,10 +144,15 @@ module _ (loose : Bool) (bodies : Bodies) where
 
   -- nothing was assumed
   pub start : (f : Claim) (b : Bool) (a : List Pair) → ((R : Test) → f R ≡ b) → After a a f (Ok b)
-  start f b a same = record { added = ([], sym (append_nil a)); grows = λ R t. t; sound = λ s. s; verdict = λ s. record {
+  start f b a same = record {
+    added = ([], sym (append_nil a));
+    grows = λ R t. t;
+    sound = λ s. s;
+    verdict = λ s. record {
       yes = λ e R trusts. same R ∙ e;
-      no = λ e. (0, same (below loose bodies 0) ∙ e)
-    } }
+      no = λ e. (0, same (below loose bodies 0) ∙ e);
+    };
+  }
 
   -- loops: each element, or some element
   module _ {X : Type 0} (claims : Test → X → Bool) (xs : List X) where

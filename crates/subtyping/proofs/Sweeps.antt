@@ -1,8 +1,8 @@
 -- Sweeps over the pairs: what is taken back fails, and what stays when nothing was taken back holds to every depth.
-use Rattle.std.proofs.Common.{◌≡◌, ℕ, zero, suc, ◌+◌, ◌<◌, ◌≤◌, Bool, true, false, List, [], ◌∷◌, ◌++◌, refl, sym, ap, ◌∙◌, subst, length, get_or, set, arith, length-append, append_assoc, ◌⊎◌, inl, inr}
-use Rattle.std.specs.Prelude.{All, Ok, Err, Result, Some, slice_get}
-use Rattle.std.proofs.lemmas.Bool.{false≢true, true≢false, both_ways, cases_lt}
-use Rattle.std.proofs.lemmas.Option.{get_or_from_slice_get, slice_get_within, slice_get-get_or}
+use Rattle.std.proofs.Common.{◌≡◌, ℕ, zero, suc, ◌+◌, ◌<◌, ◌≤◌, Bool, true, false, List, [], ◌∷◌, ◌++◌, refl, sym, ap, ◌∙◌, subst, length, get_or, set, arith, length-append, inl, inr}
+use Rattle.std.specs.Prelude.{Ok, Err, Some, slice_get}
+use Rattle.std.proofs.lemmas.Bool.{false≢true, both_ways, cases_lt}
+use Rattle.std.proofs.lemmas.Option.{get_or_from_slice_get, slice_get-get_or}
 use Rattle.std.proofs.lemmas.List.Elements.{All-set}
 use Rattle.std.proofs.Math.ListN.{length-set}
 use Rattle.tl_base.specs.declared.memory.NoMemory.{NoMemory}
@@ -12,7 +12,6 @@ use Rattle.tl_types.specs.Below.{Test, step, below, IsBelow}
 use Rattle.subtyping.specs.declared.pairs.Pair.{Pair}
 use Rattle.subtyping.specs.Pairs.{side_ty, holds, Trusts, IsSound, Verdict, Compared, Follows, IsClosedTo, Kept, Settled}
 use Rattle.subtyping.proofs.Steps.{Answer}
-use Rattle.subtyping.proofs.Assuming.{all_at}
 
 append_nil : {X : Type 0} (xs : List X) → xs ++ [] ≡ xs
 append_nil [] = refl
@@ -44,22 +43,22 @@ module _ (loose : Bool) (bodies : Bodies) where
   -- the pair was taken back before
   pub settled_dead : (old : List Pair) (k : ℕ) (p : Pair) → slice_get old k ≡ Some p → p.alive ≡ false → IsSound loose bodies old → Settled loose bodies old old k (Ok false)
   settled_dead old k p is dead s = record {
-      sound = s;
-      longer = omega arith;
-      added = λ e. ([], sym (append_nil old));
-      grows = λ e R t. t;
-      closed = λ e q here alive. let same : p ≡ q = cc in absurd (both_ways q.alive (ap (λ r. r.alive) (sym same) ∙ dead) alive)
-    }
+    sound = s;
+    longer = omega arith;
+    added = λ e. ([], sym (append_nil old));
+    grows = λ e R t. t;
+    closed = λ e q here alive. let same : p ≡ q = cc in absurd (both_ways q.alive (ap (λ r. r.alive) (sym same) ∙ dead) alive);
+  }
 
   -- its comparison holds
   pub settled_kept : (old new : List Pair) (k : ℕ) (p : Pair) → slice_get old k ≡ Some p → IsSound loose bodies old → Compared loose bodies old new (claim_of p) (Ok true) → Settled loose bodies old new k (Ok false)
   settled_kept old new k p is s c = record {
-      sound = c.sound s;
-      longer = longer old new c.added.0 c.added.1;
-      added = λ e. c.added;
-      grows = λ e. c.grows;
-      closed = λ e q here alive. let same : p ≡ q = cc in subst (Follows loose bodies new) same ((c.verdict s).yes refl)
-    }
+    sound = c.sound s;
+    longer = longer old new c.added.0 c.added.1;
+    added = λ e. c.added;
+    grows = λ e. c.grows;
+    closed = λ e q here alive. let same : p ≡ q = cc in subst (Follows loose bodies new) same ((c.verdict s).yes refl);
+  }
 
   -- its comparison fails, and it is taken back
   pub settled_taken : (old new : List Pair) (k : ℕ) (p y : Pair) → slice_get old k ≡ Some p → y ≡ get_or new k y → IsSound loose bodies old → Compared loose bodies old new (claim_of p) (Ok false) → Settled loose bodies old (set new k (record y { alive = false })) k (Ok true)
@@ -71,18 +70,18 @@ module _ (loose : Bool) (bodies : Bodies) where
         longer = omega (arith, longer old new c.added.0 c.added.1, length-set new k (record y { alive = false }));
         added = λ e. absurd (cc);
         grows = λ e. absurd (cc);
-        closed = λ e. absurd (cc)
+        closed = λ e. absurd (cc);
       }
 
   -- want of memory
   pub settled_failed : (f : Test → Bool) (x : Answer) (e : NoMemory) (old new : List Pair) (k : ℕ) → IsSound loose bodies old → Compared loose bodies old new f x → Settled loose bodies old new k (Err e)
   settled_failed f x e old new k s c = record {
-      sound = c.sound s;
-      longer = longer old new c.added.0 c.added.1;
-      added = λ e. absurd (cc);
-      grows = λ e. absurd (cc);
-      closed = λ e. absurd (cc)
-    }
+    sound = c.sound s;
+    longer = longer old new c.added.0 c.added.1;
+    added = λ e. absurd (cc);
+    grows = λ e. absurd (cc);
+    closed = λ e. absurd (cc);
+  }
 
   -- a sweep
 
@@ -102,17 +101,17 @@ module _ (loose : Bool) (bodies : Bodies) where
 
   pub kept_next : (start old new : List Pair) (k : ℕ) → k < length old → Kept loose bodies start old k → Settled loose bodies old new k (Ok false) → Kept loose bodies start new (k + 1)
   kept_next start old new k within kept s = record {
-      within = omega (arith, within, s.longer);
-      grows = λ R t. kept.grows R (s.grows refl R t);
-      closed = closed_next old new k within kept.closed s
-    }
+    within = omega (arith, within, s.longer);
+    grows = λ R t. kept.grows R (s.grows refl R t);
+    closed = closed_next old new k within kept.closed s;
+  }
 
   pub kept_all : (start new : List Pair) (k : ℕ) → length new ≤ k → Kept loose bodies start new k → Kept loose bodies start new (length new)
   kept_all start new k past kept = record {
-      within = omega arith;
-      grows = kept.grows;
-      closed = λ j before. kept.closed j (omega (arith, before, past))
-    }
+    within = omega arith;
+    grows = kept.grows;
+    closed = λ j before. kept.closed j (omega (arith, before, past));
+  }
 
   -- the end
 

@@ -1,10 +1,10 @@
 -- Pairs of types that are assumed to be below one another, and what a comparison that assumes more of them says.
-use Rattle.std.specs.Prelude.{◌≡◌, ℕ, ◌<◌, ◌≤◌, ◌+◌, Bool, true, false, List, ◌++◌, length, All, slice_get, slice_index_or, Option, Some, Result, Ok, IfOk}
+use Rattle.std.specs.Prelude.{◌≡◌, ℕ, ◌<◌, ◌≤◌, Bool, true, false, List, ◌++◌, length, All, slice_get, slice_index_or, Some, Result, Ok, IfOk}
 use Rattle.tl_base.specs.declared.memory.NoMemory.{NoMemory}
 use Rattle.tl_types.specs.declared.types.Ty.{Ty}
 use Rattle.tl_types.specs.Types.{Bodies}
 use Rattle.tl_types.specs.Unions.{or_nil}
-use Rattle.tl_types.specs.Below.{Test, step, below, IsBelow}
+use Rattle.tl_types.specs.Below.{Test, step, below}
 use Rattle.subtyping.specs.declared.pairs.Side.{Side}
 use Rattle.subtyping.specs.declared.pairs.Side.TheVariants.{Of, WithNil}
 use Rattle.subtyping.specs.declared.pairs.Pair.{Pair}

@@ -10,7 +10,12 @@ use crate::{Assumed, NoMemory, Rules, Side, Ty};
 use tl_types::{Field, Func, Tuple};
 
 /// Whether a type that is no union is below another such type.
-pub(crate) fn leaf<'a>(rules: Rules<'a>, assumed: &mut Assumed<'a>, s: &'a Ty, t: &'a Ty) -> Result<bool, NoMemory>
+pub(crate) fn leaf<'a>(
+    rules: Rules<'a>,
+    assumed: &mut Assumed<'a>,
+    s: &'a Ty,
+    t: &'a Ty,
+) -> Result<bool, NoMemory>
     ensures { Compared rules.entry.loose rules.entry.bodies.now assumed.old.pairs.items assumed.new.pairs.items (λ R. member_below rules.entry.bodies.now R s.now t.now) result }
 {
     match meet(rules, s, t) {
@@ -21,16 +26,31 @@ pub(crate) fn leaf<'a>(rules: Rules<'a>, assumed: &mut Assumed<'a>, s: &'a Ty, t
     }
 }
 
-fn function<'a>(rules: Rules<'a>, assumed: &mut Assumed<'a>, f: &'a Func, g: &'a Func) -> Result<bool, NoMemory>
+fn function<'a>(
+    rules: Rules<'a>,
+    assumed: &mut Assumed<'a>,
+    f: &'a Func,
+    g: &'a Func,
+) -> Result<bool, NoMemory>
     ensures { Compared rules.entry.loose rules.entry.bodies.now assumed.old.pairs.items assumed.new.pairs.items (λ R. function_below R f.now g.now) result }
 {
     if !tuple(rules, assumed, &g.params, &f.params)? {
         return Ok(false);
     }
-    results(rules, assumed, f.results.tuples.as_slice(), g.results.tuples.as_slice())
+    results(
+        rules,
+        assumed,
+        f.results.tuples.as_slice(),
+        g.results.tuples.as_slice(),
+    )
 }
 
-fn results<'a>(rules: Rules<'a>, assumed: &mut Assumed<'a>, ps: &'a [Tuple], qs: &'a [Tuple]) -> Result<bool, NoMemory>
+fn results<'a>(
+    rules: Rules<'a>,
+    assumed: &mut Assumed<'a>,
+    ps: &'a [Tuple],
+    qs: &'a [Tuple],
+) -> Result<bool, NoMemory>
     ensures { Compared rules.entry.loose rules.entry.bodies.now assumed.old.pairs.items assumed.new.pairs.items (λ R. results_below R ps.now qs.now) result }
 {
     for p in ps {
@@ -41,7 +61,12 @@ fn results<'a>(rules: Rules<'a>, assumed: &mut Assumed<'a>, ps: &'a [Tuple], qs:
     Ok(true)
 }
 
-fn one_of<'a>(rules: Rules<'a>, assumed: &mut Assumed<'a>, p: &'a Tuple, qs: &'a [Tuple]) -> Result<bool, NoMemory>
+fn one_of<'a>(
+    rules: Rules<'a>,
+    assumed: &mut Assumed<'a>,
+    p: &'a Tuple,
+    qs: &'a [Tuple],
+) -> Result<bool, NoMemory>
     ensures { Compared rules.entry.loose rules.entry.bodies.now assumed.old.pairs.items assumed.new.pairs.items (λ R. list_any (tuple_below R p.now) qs.now) result }
 {
     for q in qs {
@@ -52,7 +77,12 @@ fn one_of<'a>(rules: Rules<'a>, assumed: &mut Assumed<'a>, p: &'a Tuple, qs: &'a
     Ok(false)
 }
 
-fn tuple<'a>(rules: Rules<'a>, assumed: &mut Assumed<'a>, p: &'a Tuple, q: &'a Tuple) -> Result<bool, NoMemory>
+fn tuple<'a>(
+    rules: Rules<'a>,
+    assumed: &mut Assumed<'a>,
+    p: &'a Tuple,
+    q: &'a Tuple,
+) -> Result<bool, NoMemory>
     ensures { Compared rules.entry.loose rules.entry.bodies.now assumed.old.pairs.items assumed.new.pairs.items (λ R. tuple_below R p.now q.now) result }
 {
     let most = p.items.len().max(q.items.len());
@@ -61,7 +91,11 @@ fn tuple<'a>(rules: Rules<'a>, assumed: &mut Assumed<'a>, p: &'a Tuple, q: &'a T
             return Ok(false);
         }
     }
-    assume(assumed, Side::WithNil(p.tail.get()), Side::WithNil(q.tail.get()))
+    assume(
+        assumed,
+        Side::WithNil(p.tail.get()),
+        Side::WithNil(q.tail.get()),
+    )
 }
 
 // The type at a place of a tuple.
@@ -74,7 +108,12 @@ fn place<'a>(tuple: &'a Tuple, i: usize) -> Side<'a>
     }
 }
 
-fn record<'a>(rules: Rules<'a>, assumed: &mut Assumed<'a>, fs: &'a [Field], gs: &'a [Field]) -> Result<bool, NoMemory>
+fn record<'a>(
+    rules: Rules<'a>,
+    assumed: &mut Assumed<'a>,
+    fs: &'a [Field],
+    gs: &'a [Field],
+) -> Result<bool, NoMemory>
     ensures { Compared rules.entry.loose rules.entry.bodies.now assumed.old.pairs.items assumed.new.pairs.items (λ R. record_below R fs.now gs.now) result }
 {
     for g in gs {
@@ -86,7 +125,13 @@ fn record<'a>(rules: Rules<'a>, assumed: &mut Assumed<'a>, fs: &'a [Field], gs: 
 }
 
 // Whether the left record has the field of a name that the right one has.
-fn has_named<'a>(rules: Rules<'a>, assumed: &mut Assumed<'a>, fs: &'a [Field], gs: &'a [Field], name: &[u8]) -> Result<bool, NoMemory>
+fn has_named<'a>(
+    rules: Rules<'a>,
+    assumed: &mut Assumed<'a>,
+    fs: &'a [Field],
+    gs: &'a [Field],
+    name: &[u8],
+) -> Result<bool, NoMemory>
     ensures { Compared rules.entry.loose rules.entry.bodies.now assumed.old.pairs.items assumed.new.pairs.items (λ R. has_below R (named name.now fs.now) (named name.now gs.now)) result }
 {
     has(rules, assumed, find(fs, name), find(gs, name))
@@ -99,7 +144,12 @@ fn find<'a>(fields: &'a [Field], name: &[u8]) -> Option<&'a Field>
     fields.iter().find(|f| f.name.as_slice() == name)
 }
 
-fn has<'a>(rules: Rules<'a>, assumed: &mut Assumed<'a>, f: Option<&'a Field>, g: Option<&'a Field>) -> Result<bool, NoMemory>
+fn has<'a>(
+    rules: Rules<'a>,
+    assumed: &mut Assumed<'a>,
+    f: Option<&'a Field>,
+    g: Option<&'a Field>,
+) -> Result<bool, NoMemory>
     ensures { Compared rules.entry.loose rules.entry.bodies.now assumed.old.pairs.items assumed.new.pairs.items (λ R. has_below R (option_map (λ f. f.now) f.entry) (option_map (λ g. g.now) g.entry)) result }
 {
     match (f, g) {
@@ -109,7 +159,12 @@ fn has<'a>(rules: Rules<'a>, assumed: &mut Assumed<'a>, f: Option<&'a Field>, g:
     }
 }
 
-fn field<'a>(rules: Rules<'a>, assumed: &mut Assumed<'a>, f: &'a Field, g: &'a Field) -> Result<bool, NoMemory>
+fn field<'a>(
+    rules: Rules<'a>,
+    assumed: &mut Assumed<'a>,
+    f: &'a Field,
+    g: &'a Field,
+) -> Result<bool, NoMemory>
     ensures { Compared rules.entry.loose rules.entry.bodies.now assumed.old.pairs.items assumed.new.pairs.items (λ R. field_below R f.now g.now) result }
 {
     if !assume(assumed, Side::Of(&f.ty), Side::Of(&g.ty))? {
@@ -124,7 +179,14 @@ fn field<'a>(rules: Rules<'a>, assumed: &mut Assumed<'a>, f: &'a Field, g: &'a F
     assume(assumed, Side::Of(&g.ty), Side::Of(&f.ty))
 }
 
-fn map<'a>(rules: Rules<'a>, assumed: &mut Assumed<'a>, k: &'a Ty, v: &'a Ty, l: &'a Ty, w: &'a Ty) -> Result<bool, NoMemory>
+fn map<'a>(
+    rules: Rules<'a>,
+    assumed: &mut Assumed<'a>,
+    k: &'a Ty,
+    v: &'a Ty,
+    l: &'a Ty,
+    w: &'a Ty,
+) -> Result<bool, NoMemory>
     ensures { Compared rules.entry.loose rules.entry.bodies.now assumed.old.pairs.items assumed.new.pairs.items (λ R. map_below R k.now v.now l.now w.now) result }
 {
     if !both(rules, assumed, k, l)? {
@@ -134,7 +196,12 @@ fn map<'a>(rules: Rules<'a>, assumed: &mut Assumed<'a>, k: &'a Ty, v: &'a Ty, l:
 }
 
 // Whether two types are below each other.
-fn both<'a>(rules: Rules<'a>, assumed: &mut Assumed<'a>, a: &'a Ty, b: &'a Ty) -> Result<bool, NoMemory>
+fn both<'a>(
+    rules: Rules<'a>,
+    assumed: &mut Assumed<'a>,
+    a: &'a Ty,
+    b: &'a Ty,
+) -> Result<bool, NoMemory>
     ensures { Compared rules.entry.loose rules.entry.bodies.now assumed.old.pairs.items assumed.new.pairs.items (λ R. R a.now b.now && R b.now a.now) result }
 {
     if !assume(assumed, Side::Of(a), Side::Of(b))? {

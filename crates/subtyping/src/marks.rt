@@ -73,7 +73,10 @@ fn mark_fields(fields: &[Field], levels: u32) -> u64 {
 
 #[cycle(marks)]
 fn mark_tuple(tuple: &Tuple, levels: u32) -> u64 {
-    mix(mark_all(tuple.items.as_slice(), levels), mark(tuple.tail.get(), levels))
+    mix(
+        mark_all(tuple.items.as_slice(), levels),
+        mark(tuple.tail.get(), levels),
+    )
 }
 
 #[cycle(marks)]

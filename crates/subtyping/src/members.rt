@@ -10,7 +10,12 @@ use crate::compare::leaf;
 use crate::{Assumed, NoMemory, Rules, Side, Ty};
 
 /// Whether each member of the left side is below a member of the right one.
-pub(crate) fn each_of<'a>(rules: Rules<'a>, assumed: &mut Assumed<'a>, left: Side<'a>, right: Side<'a>) -> Result<bool, NoMemory>
+pub(crate) fn each_of<'a>(
+    rules: Rules<'a>,
+    assumed: &mut Assumed<'a>,
+    left: Side<'a>,
+    right: Side<'a>,
+) -> Result<bool, NoMemory>
     requires nil { rules.nil.now ≡ ty.Nil }
     ensures { Compared rules.entry.loose rules.entry.bodies.now assumed.old.pairs.items assumed.new.pairs.items (λ R. step rules.entry.loose rules.entry.bodies.now R (side_ty left.entry) (side_ty right.entry)) result }
 {
@@ -21,7 +26,12 @@ pub(crate) fn each_of<'a>(rules: Rules<'a>, assumed: &mut Assumed<'a>, left: Sid
 }
 
 // The same of the union of a type and `nil` on the left.
-fn with_nil<'a>(rules: Rules<'a>, assumed: &mut Assumed<'a>, a: &'a Ty, right: Side<'a>) -> Result<bool, NoMemory>
+fn with_nil<'a>(
+    rules: Rules<'a>,
+    assumed: &mut Assumed<'a>,
+    a: &'a Ty,
+    right: Side<'a>,
+) -> Result<bool, NoMemory>
     requires nil { rules.nil.now ≡ ty.Nil }
     ensures { Compared rules.entry.loose rules.entry.bodies.now assumed.old.pairs.items assumed.new.pairs.items (λ R. step rules.entry.loose rules.entry.bodies.now R (Rattle.tl_types.specs.Unions.or_nil a.now) (side_ty right.entry)) result }
 {
@@ -35,7 +45,12 @@ fn with_nil<'a>(rules: Rules<'a>, assumed: &mut Assumed<'a>, a: &'a Ty, right: S
 }
 
 // The same of a type on the left.
-fn each<'a>(rules: Rules<'a>, assumed: &mut Assumed<'a>, a: &'a Ty, right: Side<'a>) -> Result<bool, NoMemory>
+fn each<'a>(
+    rules: Rules<'a>,
+    assumed: &mut Assumed<'a>,
+    a: &'a Ty,
+    right: Side<'a>,
+) -> Result<bool, NoMemory>
     requires nil { rules.nil.now ≡ ty.Nil }
     ensures { Compared rules.entry.loose rules.entry.bodies.now assumed.old.pairs.items assumed.new.pairs.items (λ R. step rules.entry.loose rules.entry.bodies.now R a.now (side_ty right.entry)) result }
 {
@@ -54,7 +69,12 @@ fn each<'a>(rules: Rules<'a>, assumed: &mut Assumed<'a>, a: &'a Ty, right: Side<
 }
 
 // Whether a type that is no union is below a member of the right side.
-fn some_of<'a>(rules: Rules<'a>, assumed: &mut Assumed<'a>, s: &'a Ty, right: Side<'a>) -> Result<bool, NoMemory>
+fn some_of<'a>(
+    rules: Rules<'a>,
+    assumed: &mut Assumed<'a>,
+    s: &'a Ty,
+    right: Side<'a>,
+) -> Result<bool, NoMemory>
     requires nil { rules.nil.now ≡ ty.Nil }
     ensures { Compared rules.entry.loose rules.entry.bodies.now assumed.old.pairs.items assumed.new.pairs.items (λ R. list_any (member_below rules.entry.bodies.now R s.now) (members (side_ty right.entry))) result }
 {
@@ -65,7 +85,12 @@ fn some_of<'a>(rules: Rules<'a>, assumed: &mut Assumed<'a>, s: &'a Ty, right: Si
 }
 
 // The same where `nil` stands beside a type.
-fn some_or_nil<'a>(rules: Rules<'a>, assumed: &mut Assumed<'a>, s: &'a Ty, t: &'a Ty) -> Result<bool, NoMemory>
+fn some_or_nil<'a>(
+    rules: Rules<'a>,
+    assumed: &mut Assumed<'a>,
+    s: &'a Ty,
+    t: &'a Ty,
+) -> Result<bool, NoMemory>
     requires nil { rules.nil.now ≡ ty.Nil }
     ensures { Compared rules.entry.loose rules.entry.bodies.now assumed.old.pairs.items assumed.new.pairs.items (λ R. list_any (member_below rules.entry.bodies.now R s.now) (members (Rattle.tl_types.specs.Unions.or_nil t.now))) result }
 {
@@ -76,7 +101,12 @@ fn some_or_nil<'a>(rules: Rules<'a>, assumed: &mut Assumed<'a>, s: &'a Ty, t: &'
 }
 
 // Whether a type that is no union is below a member of another.
-fn some<'a>(rules: Rules<'a>, assumed: &mut Assumed<'a>, s: &'a Ty, t: &'a Ty) -> Result<bool, NoMemory>
+fn some<'a>(
+    rules: Rules<'a>,
+    assumed: &mut Assumed<'a>,
+    s: &'a Ty,
+    t: &'a Ty,
+) -> Result<bool, NoMemory>
     ensures { Compared rules.entry.loose rules.entry.bodies.now assumed.old.pairs.items assumed.new.pairs.items (λ R. list_any (member_below rules.entry.bodies.now R s.now) (members t.now)) result }
 {
     if let Ty::Union(members) = t {

@@ -26,7 +26,13 @@ impl Orders {
 }
 
 /// Whether type `a` is below type `b` in plain subtyping or, where `loose`, in consistent subtyping.
-pub fn is_below(alloc: Global, loose: bool, interfaces: &Interfaces, a: &Ty, b: &Ty) -> Result<bool, NoMemory>
+pub fn is_below(
+    alloc: Global,
+    loose: bool,
+    interfaces: &Interfaces,
+    a: &Ty,
+    b: &Ty,
+) -> Result<bool, NoMemory>
     ensures { IfOk result (λ yes. (yes ≡ true) ↔ IsBelow loose interfaces.now.bodies a.now b.now) }
 {
     let nil = Ty::Nil;

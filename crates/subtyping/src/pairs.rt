@@ -73,7 +73,11 @@ impl<'a> Assumed<'a> {
 }
 
 /// Whether the pair is assumed, as it is from now on if it is new.
-pub(crate) fn assume<'a>(assumed: &mut Assumed<'a>, left: Side<'a>, right: Side<'a>) -> Result<bool, NoMemory>
+pub(crate) fn assume<'a>(
+    assumed: &mut Assumed<'a>,
+    left: Side<'a>,
+    right: Side<'a>,
+) -> Result<bool, NoMemory>
     ensures { (loose : Bool) (bodies : Bodies) → Compared loose bodies assumed.old.pairs.items assumed.new.pairs.items (λ R. R (side_ty left.entry) (side_ty right.entry)) result }
 {
     let mark = pair_mark(left, right);

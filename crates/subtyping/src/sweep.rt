@@ -60,7 +60,12 @@ fn sweep_back<'a>(rules: Rules<'a>, assumed: &mut Assumed<'a>) -> Result<(), NoM
 }
 
 /// Whether one type is below the other to every depth.
-pub(crate) fn decide<'a>(alloc: Global, rules: Rules<'a>, a: &'a Ty, b: &'a Ty) -> Result<bool, NoMemory>
+pub(crate) fn decide<'a>(
+    alloc: Global,
+    rules: Rules<'a>,
+    a: &'a Ty,
+    b: &'a Ty,
+) -> Result<bool, NoMemory>
     requires nil { rules.nil.now ≡ ty.Nil }
     ensures { IfOk result (λ yes. (yes ≡ true) ↔ IsBelow rules.entry.loose rules.entry.bodies.now a.now b.now) }
 {

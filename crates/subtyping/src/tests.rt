@@ -72,13 +72,21 @@ fn failed_alternatives_leave_no_trace(rt: HostRuntime) -> Result<(), Fail> {
         let given = Ty::Rec(body(alloc, Ty::Iface(0), Ty::Iface(2))?);
         let first = either(alloc, Ty::Iface(1), Ty::Rec(List::new(alloc)))?;
         let asked = Ty::Rec(body(alloc, first, Ty::Iface(3))?);
-        assert_eq!(rt; Orders::new(alloc)?.is_subtype(&interfaces, &given, &asked)?, wanted);
+        assert_eq!(rt;
+            Orders::new(alloc)?.is_subtype(&interfaces, &given, &asked)?,
+            wanted
+        );
     }
     Ok(())
 }
 
 // So many interfaces from a number on, each leading to the next one and the last to the first.
-fn add_cycle(alloc: Global, bodies: &mut List<List<Field>>, first: u32, count: u32) -> Result<(), NoMemory> {
+fn add_cycle(
+    alloc: Global,
+    bodies: &mut List<List<Field>>,
+    first: u32,
+    count: u32,
+) -> Result<(), NoMemory> {
     for i in 1..count {
         bodies.push(body(alloc, Ty::Int, Ty::Iface(first.saturating_add(i)))?)?;
     }

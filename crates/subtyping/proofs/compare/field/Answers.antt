@@ -57,4 +57,4 @@ returns c =
     let f = c.args.f.now in
     let g = c.args.g.now in
     same_claim loose bodies (λ R. R f.ty g.ty && R g.ty f.ty) (λ R. field_below R f g) _ _ _ (λ R. both_mutable R f g c.if-g.false c.if-f.false)
-        (and_then loose bodies (λ R. R f.ty g.ty) (λ R. R g.ty f.ty) _ _ _ _ (at_ok loose bodies _ _ _ _ _ _ (c.assume.ensures loose bodies) c.in_ok-assume.was c.if-not-branch.false) (c.assume-2.ensures loose bodies))
+    (and_then loose bodies (λ R. R f.ty g.ty) (λ R. R g.ty f.ty) _ _ _ _ (at_ok loose bodies _ _ _ _ _ _ (c.assume.ensures loose bodies) c.in_ok-assume.was c.if-not-branch.false) (c.assume-2.ensures loose bodies))

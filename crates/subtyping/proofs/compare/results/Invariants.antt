@@ -1,7 +1,7 @@
-use Rattle.std.proofs.Common.{◌≡◌, true, false, take}
+use Rattle.std.proofs.Common.{true, take}
 use Rattle.std.specs.Prelude.{Ok}
 use Rattle.std.specs.List.{list_any, list_all}
-use Rattle.tl_types.specs.Below.{named, has_below, places_below, tuple_below}
+use Rattle.tl_types.specs.Below.{tuple_below}
 use Rattle.subtyping.specs.Pairs.{Compared}
 use Rattle.subtyping.proofs.compare.results.Given as goal
 

@@ -17,8 +17,8 @@ returns-then-not-branch c =
     let q = c.args.q.now in
     let within : c.loop-i.i + 1 ≤ max (length p.items) (length q.items) = omega (arith, c.loop-i-test.true, c.max-most.ensures, c.len.ensures, c.len-2.ensures) in
     place_stop p q loose bodies (c.loop-i.i + 1) _ _ within
-        (place_step p q loose bodies c.loop-i.i (side_ty c.place.result) (side_ty c.place-in-loop-i.result) (Ok false) _ _ _ c.place.ensures c.place-in-loop-i.ensures c.loop-i.invariant
-            (at_ok loose bodies _ _ _ _ _ _ (c.assume.ensures loose bodies) c.in_ok-assume.was c.if-not-branch.true))
+    (place_step p q loose bodies c.loop-i.i (side_ty c.place.result) (side_ty c.place-in-loop-i.result) (Ok false) _ _ _ c.place.ensures c.place-in-loop-i.ensures c.loop-i.invariant
+    (at_ok loose bodies _ _ _ _ _ _ (c.assume.ensures loose bodies) c.in_ok-assume.was c.if-not-branch.true))
 
 pub loop-i-preserved : goal.loop-i-preserved
 loop-i-preserved c =
@@ -27,7 +27,7 @@ loop-i-preserved c =
     let p = c.args.p.now in
     let q = c.args.q.now in
     place_step p q loose bodies c.loop-i.i (side_ty c.place.result) (side_ty c.place-in-loop-i.result) (Ok true) _ _ _ c.place.ensures c.place-in-loop-i.ensures c.loop-i.invariant
-        (at_ok loose bodies _ _ _ _ _ _ (c.assume.ensures loose bodies) c.in_ok-assume.was c.if-not-branch.false)
+    (at_ok loose bodies _ _ _ _ _ _ (c.assume.ensures loose bodies) c.in_ok-assume.was c.if-not-branch.false)
 
 pub returns : goal.returns
 returns c =

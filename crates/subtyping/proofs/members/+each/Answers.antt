@@ -23,7 +23,7 @@ returns-then-not-branch t c =
     let claims = λ (R : Test) (m : Ty). step loose bodies R m right in
     let claim = λ (R : Test). step loose bodies R c.args.a.now right in
     same_claim loose bodies (λ R. list_all (claims R) items) claim _ _ _ (λ R. union_left loose bodies R c.args.a.now right items is)
-        (all_stop loose bodies claims items (c.loop-member.member-index + 1) _ _ (all_step loose bodies claims items c.loop-member.member-index c.member-item.result (Ok false) _ _ _ c.loop-member-test.true c.member-item.is c.loop-member.invariant (at_ok loose bodies _ _ _ _ _ _ c.each.ensures c.in_ok-each.was c.if-not-branch.true)))
+    (all_stop loose bodies claims items (c.loop-member.member-index + 1) _ _ (all_step loose bodies claims items c.loop-member.member-index c.member-item.result (Ok false) _ _ _ c.loop-member-test.true c.member-item.is c.loop-member.invariant (at_ok loose bodies _ _ _ _ _ _ c.each.ensures c.in_ok-each.was c.if-not-branch.true)))
 
 pub loop-member-preserved : goal.loop-member-preserved
 loop-member-preserved t c =
@@ -44,7 +44,7 @@ returns-in-Union t c =
     let claims = λ (R : Test) (m : Ty). step loose bodies R m right in
     let claim = λ (R : Test). step loose bodies R c.args.a.now right in
     same_claim loose bodies (λ R. list_all (claims R) items) claim _ _ _ (λ R. union_left loose bodies R c.args.a.now right items is)
-        (all_done loose bodies claims items c.loop-member.member-index (Ok true) _ _ c.loop-member-test.false c.loop-member.invariant)
+    (all_done loose bodies claims items c.loop-member.member-index (Ok true) _ _ c.loop-member-test.false c.loop-member.invariant)
 
 pub returns-then-lets_all : goal.returns-then-lets_all
 returns-then-lets_all t c =

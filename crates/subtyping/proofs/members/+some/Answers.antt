@@ -23,7 +23,7 @@ returns-then-branch t c =
     let claims = λ (R : Test) (m : Ty). list_any (member_below bodies R s) (members m) in
     let claim = λ (R : Test). list_any (member_below bodies R s) (members c.args.t.now) in
     same_claim loose bodies (λ R. list_any (claims R) items) claim _ _ _ (λ R. union_right loose bodies R s c.args.t.now items is)
-        (any_hit loose bodies claims items (c.loop-member.member-index + 1) _ _ (any_step loose bodies claims items (some_mono bodies s) c.loop-member.member-index c.member-item.result (Ok true) _ _ _ c.loop-member-test.true c.member-item.is c.loop-member.invariant (at_ok loose bodies _ _ _ _ _ _ c.some.ensures c.in_ok-some.was c.if-branch.true)))
+    (any_hit loose bodies claims items (c.loop-member.member-index + 1) _ _ (any_step loose bodies claims items (some_mono bodies s) c.loop-member.member-index c.member-item.result (Ok true) _ _ _ c.loop-member-test.true c.member-item.is c.loop-member.invariant (at_ok loose bodies _ _ _ _ _ _ c.some.ensures c.in_ok-some.was c.if-branch.true)))
 
 pub loop-member-preserved : goal.loop-member-preserved
 loop-member-preserved t c =
@@ -44,7 +44,7 @@ returns-in-Union t c =
     let claims = λ (R : Test) (m : Ty). list_any (member_below bodies R s) (members m) in
     let claim = λ (R : Test). list_any (member_below bodies R s) (members c.args.t.now) in
     same_claim loose bodies (λ R. list_any (claims R) items) claim _ _ _ (λ R. union_right loose bodies R s c.args.t.now items is)
-        (any_done loose bodies claims items c.loop-member.member-index (Ok false) _ _ c.loop-member-test.false c.loop-member.invariant)
+    (any_done loose bodies claims items c.loop-member.member-index (Ok false) _ _ c.loop-member-test.false c.loop-member.invariant)
 
 pub returns : goal.returns
 returns t c =

@@ -1,4 +1,4 @@
-use Rattle.std.proofs.Common.{◌≡◌, true, false, ◌&&◌, sym, ◌∙◌, subst}
+use Rattle.std.proofs.Common.{true, ◌&&◌, sym, ◌∙◌, subst}
 use Rattle.tl_types.specs.declared.types.Ty.TheVariants as ty
 use Rattle.tl_types.specs.Unions.{or_nil}
 use Rattle.tl_types.specs.Below.{Test, step}
@@ -25,7 +25,7 @@ returns-then-not-branch c =
     let first = λ (R : Test). step loose bodies R c.args.a.now right in
     let second = λ (R : Test). step loose bodies R ty.Nil right in
     same_claim loose bodies (λ R. first R && second R) (λ R. step loose bodies R (or_nil c.args.a.now) right) _ _ _ (λ R. left_nil loose bodies R c.args.a.now right (sym c.lets_all.ensures ∙ c.if-lets_all.false))
-        (and_stop loose bodies first second _ _ (at_ok loose bodies _ _ _ _ _ _ c.each.ensures c.in_ok-each.was c.if-not-branch.true))
+    (and_stop loose bodies first second _ _ (at_ok loose bodies _ _ _ _ _ _ c.each.ensures c.in_ok-each.was c.if-not-branch.true))
 
 pub returns : goal.returns
 returns c =
@@ -36,4 +36,4 @@ returns c =
     let second = λ (R : Test). step loose bodies R ty.Nil right in
     let nil = subst (λ u. Compared loose bodies c.each.new.assumed.pairs.items c.each-2.new.assumed.pairs.items (λ R. step loose bodies R u right) c.each-2.result) c.requires.nil c.each-2.ensures in
     same_claim loose bodies (λ R. first R && second R) (λ R. step loose bodies R (or_nil c.args.a.now) right) _ _ _ (λ R. left_nil loose bodies R c.args.a.now right (sym c.lets_all.ensures ∙ c.if-lets_all.false))
-        (and_then loose bodies first second _ _ _ _ (at_ok loose bodies _ _ _ _ _ _ c.each.ensures c.in_ok-each.was c.if-not-branch.false) nil)
+    (and_then loose bodies first second _ _ _ _ (at_ok loose bodies _ _ _ _ _ _ c.each.ensures c.in_ok-each.was c.if-not-branch.false) nil)

@@ -1,4 +1,4 @@
-use Rattle.std.proofs.Common.{true, refl, ◌≡◌, subst, List, ◌++◌, ◌∷◌, [], sym, Ok}
+use Rattle.std.proofs.Common.{true, refl, subst, sym, Ok}
 use Rattle.subtyping.specs.declared.pairs.Pair.{Pair}
 use Rattle.subtyping.specs.Pairs.{side_ty, Compared}
 use Rattle.subtyping.proofs.Assuming.{found_pair, new_pair}

@@ -1,4 +1,4 @@
-use Rattle.std.proofs.Common.{true, false, refl, ap, ◌∙◌}
+use Rattle.std.proofs.Common.{refl, ap, ◌∙◌}
 use Rattle.std.specs.Prelude.{Ok}
 use Rattle.std.proofs.lemmas.Bool.{false≢true}
 use Rattle.subtyping.proofs.Steps.{at_ok}

@@ -1,4 +1,4 @@
-use Rattle.std.proofs.Common.{◌≡◌, ◌+◌, ◌<◌, length, true, false, sym, ap, ◌∙◌, subst, arith}
+use Rattle.std.proofs.Common.{◌+◌, ◌<◌, length, sym, ap, ◌∙◌, subst, arith}
 use Rattle.std.specs.Prelude.{Ok}
 use Rattle.std.proofs.lemmas.Bool.{true≢false}
 use Rattle.subtyping.specs.Pairs.{Settled, Kept}
@@ -19,5 +19,5 @@ loop-k-preserved c =
       kept = λ unchanged. elim c.if-branch.branch as (λ b. Kept loose bodies start new (c.loop-k.k + 1)) [
         | then-branch w ↦ absurd (true≢false (sym w.changed-is ∙ unchanged))
         | else-branch w ↦ kept_next loose bodies start old new c.loop-k.k within (c.loop-k.invariant.kept (sym w.changed-is ∙ unchanged)) (subst (Settled loose bodies old new c.loop-k.k) (c.in_ok-settle.was ∙ ap Ok w.if-branch.false) c.settle.ensures)
-      ]
+      ];
     }
