@@ -1,58 +1,109 @@
-ghost use Rattle.std.specs.Prelude.{◌≡◌, IfOk};
-ghost use Rattle.tl_types.specs.Types.{general_form};
+ghost use Rattle.std.specs.Prelude.{◌≡◌};
+ghost use Rattle.tl_types.specs.declared.types.TyError.TheVariants as ty_error;
 
 use crate::{NoMemory, Text};
+use std::alloc::{AllocError, AllocFailed};
+use tl_base::{Boxed, List};
 
-/// A type.
+/// A field over any type of types, so that `Ty` alone leads back to itself.
+#[derive(Debug, Drop)]
+pub struct FieldOf<T> {
+    pub name: Text,
+    /// whether it is never assigned after the record is made
+    pub is_const: bool,
+    pub ty: T,
+}
+
+/// A list of types and a tail, over any type of types.
+#[derive(Debug, Drop)]
+pub struct TupleOf<T> {
+    pub items: List<T>,
+    /// the type of each position past the list that has a value
+    pub tail: Boxed<T>,
+}
+
+/// What a function may return, over any type of types: one of these tuples. Without a tuple it never returns.
+#[derive(Debug, Drop)]
+pub struct ResultsOf<T> {
+    pub tuples: List<TupleOf<T>>,
+}
+
+/// A function, over any type of types.
+#[derive(Debug, Drop)]
+pub struct FuncOf<T> {
+    pub params: TupleOf<T>,
+    pub results: ResultsOf<T>,
+}
+
+/// A type. An interface stands as its number, so that each type is a finite tree.
 #[derive(Debug, Drop)]
 pub enum Ty {
     Nil,
     True,
     False,
-    /// `true` and `false`
-    Boolean,
-    Integer,
+    Int,
     /// one integer alone
-    IntegerLiteral(i64),
-    String,
+    IntLit(i64),
+    Str,
     /// one string alone
-    StringLiteral(Text),
+    StrLit(Text),
     /// every value, of which nothing is known
     Value,
     /// every value, trusted to be what its use asks for
     Any,
+    /// the values of all members; without a member it is `never`, and `boolean` is the union of `true` and `false`
+    Union(List<Ty>),
+    Func(Boxed<FuncOf<Ty>>),
+    /// the tables with these fields; `{}` has none
+    Rec(List<FieldOf<Ty>>),
+    /// the tables with keys and values of these types; `{V}` has integer keys
+    Map(Boxed<Ty>, Boxed<Ty>),
+    /// the interface of this number
+    Iface(u32),
 }
 
-impl Ty {
-    /// The type that a local without annotation is declared with: a literal gives its base type, and `true` and `false` give `boolean`.
-    pub fn general(&self) -> Ty
-        ensures { result ≡ general_form self.now }
-    {
-        match self {
-            Ty::Nil => Ty::Nil,
-            Ty::True | Ty::False | Ty::Boolean => Ty::Boolean,
-            Ty::Integer | Ty::IntegerLiteral(_) => Ty::Integer,
-            Ty::String | Ty::StringLiteral(_) => Ty::String,
-            Ty::Value => Ty::Value,
-            Ty::Any => Ty::Any,
-        }
-    }
+pub type Field = FieldOf<Ty>;
 
-    /// The same type once more. A literal's string is shared.
-    pub fn copy(&self) -> Result<Ty, NoMemory>
-        ensures { IfOk result (λ t. t ≡ self.now) }
-    {
-        Ok(match self {
-            Ty::Nil => Ty::Nil,
-            Ty::True => Ty::True,
-            Ty::False => Ty::False,
-            Ty::Boolean => Ty::Boolean,
-            Ty::Integer => Ty::Integer,
-            Ty::IntegerLiteral(n) => Ty::IntegerLiteral(*n),
-            Ty::String => Ty::String,
-            Ty::StringLiteral(s) => Ty::StringLiteral(s.share()?),
-            Ty::Value => Ty::Value,
-            Ty::Any => Ty::Any,
-        })
+pub type Tuple = TupleOf<Ty>;
+
+pub type Results = ResultsOf<Ty>;
+
+pub type Func = FuncOf<Ty>;
+
+/// The record that each interface stands for, by its number.
+#[derive(Debug, Drop)]
+pub struct Interfaces {
+    pub bodies: List<List<Field>>,
+}
+
+/// Why there is no type.
+#[derive(Clone, Copy, Debug, PartialEq, Eq)]
+pub enum TyError {
+    /// it would have more than 65536 nodes or a depth above 100
+    TooLarge,
+    NoMemory,
+}
+
+impl From<NoMemory> for TyError {
+    ghost from_gives = { λ _ error. error ≡ ty_error.NoMemory };
+
+    fn from(_error: NoMemory) -> TyError {
+        TyError::NoMemory
+    }
+}
+
+impl From<AllocError> for TyError {
+    ghost from_gives = { λ _ error. error ≡ ty_error.NoMemory };
+
+    fn from(_error: AllocError) -> TyError {
+        TyError::NoMemory
+    }
+}
+
+impl<T: Drop> From<AllocFailed<T>> for TyError {
+    ghost from_gives = { λ _ error. error ≡ ty_error.NoMemory };
+
+    fn from(_error: AllocFailed<T>) -> TyError {
+        TyError::NoMemory
     }
 }
