@@ -21,6 +21,16 @@ pub enum RefusalCode {
     L4,
     /// a file longer than 1048576 bytes
     L5,
+    /// a word that no module has there
+    P1,
+    /// `/` or `^`
+    P2,
+    /// `goto` or `::`
+    P3,
+    /// constructs too deep in one another
+    P4,
+    /// a word that only a typed module has there
+    P5,
     /// a value that doesn't flow to its place
     F1,
     /// an operand that the operation doesn't take
@@ -42,6 +52,11 @@ impl RefusalCode {
             RefusalCode::L3 => "L3",
             RefusalCode::L4 => "L4",
             RefusalCode::L5 => "L5",
+            RefusalCode::P1 => "P1",
+            RefusalCode::P2 => "P2",
+            RefusalCode::P3 => "P3",
+            RefusalCode::P4 => "P4",
+            RefusalCode::P5 => "P5",
             RefusalCode::F1 => "F1",
             RefusalCode::F2 => "F2",
             RefusalCode::F14 => "F14",

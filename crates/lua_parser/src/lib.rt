@@ -1,0 +1,2 @@
+//! The grammar of Lua with optional types, and the reading of a module's tree.
+#![tactic(auto)]
