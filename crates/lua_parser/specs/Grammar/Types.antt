@@ -76,8 +76,8 @@ mutual
   pub data SpellsMember : Ending → TypeExpr → Words → Type 0 where
     simple_type : {x : TypeExpr} {ts : Words} → SpellsSimple x ts → SpellsMember InItself x ts
     optional_type : {x : TypeExpr} {ts : Words} (q : Pos) → SpellsSimple x ts → SpellsMember InItself (t.Optional (place x) x) (ts ++ symbol s.Question q ∷ [])
-    function_type : {e : Ending} {a : TypeTuple} {r : TypeResults} {ts us : Words} (p q o : Pos) → SpellsTuple a ts → SpellsResults e r us
-        → SpellsMember e (t.Function p a r) (symbol s.OpenParen p ∷ ts ++ symbol s.CloseParen q ∷ symbol s.Arrow o ∷ us)
+    function_type : {e : Ending} {xs : List TypeExpr} {rest : Option TypeExpr} {r : TypeResults} {ts us : Words} (p q o : Pos) → SpellsTuple xs rest ts → SpellsResults e r us
+        → SpellsMember e (t.Function p (tuple xs rest) r) (symbol s.OpenParen p ∷ ts ++ symbol s.CloseParen q ∷ symbol s.Arrow o ∷ us)
 
   pub data SpellsSimple : TypeExpr → Words → Type 0 where
     nil_type : (p : Pos) → SpellsSimple (t.Nil p) (keyword w.Nil p ∷ [])
@@ -105,9 +105,9 @@ mutual
     plain_field : {x : TypeExpr} {ts : Words} (n : Name) (q : Pos) → SpellsType x ts → SpellsField (field false n x) (named n ∷ symbol s.Colon q ∷ ts)
     const_field : {x : TypeExpr} {ts : Words} (p : Pos) (n : Name) (q : Pos) → SpellsType x ts → SpellsField (field true n x) (named (name_at p (codes "const")) ∷ named n ∷ symbol s.Colon q ∷ ts)
 
-  pub data SpellsTuple : TypeTuple → Words → Type 0 where
-    no_items : SpellsTuple (tuple [] None) []
-    items : {xs : List TypeExpr} {rest : Option TypeExpr} {ts : Words} → SpellsItems xs rest ts → SpellsTuple (tuple xs rest) ts
+  pub data SpellsTuple : List TypeExpr → Option TypeExpr → Words → Type 0 where
+    no_items : SpellsTuple [] None []
+    items : {xs : List TypeExpr} {rest : Option TypeExpr} {ts : Words} → SpellsItems xs rest ts → SpellsTuple xs rest ts
 
   pub data SpellsItems : List TypeExpr → Option TypeExpr → Words → Type 0 where
     last_item : {x : TypeExpr} {ts : Words} → SpellsType x ts → SpellsItems (x ∷ []) None ts
@@ -116,9 +116,9 @@ mutual
 
   -- one tuple or more in parentheses, with the place of the first
   pub data SpellsTuples : Pos → List TypeTuple → Words → Type 0 where
-    last_tuple : {a : TypeTuple} {ts : Words} (p q : Pos) → SpellsTuple a ts → SpellsTuples p (a ∷ []) (symbol s.OpenParen p ∷ ts ++ symbol s.CloseParen q ∷ [])
-    more_tuples : {a : TypeTuple} {rest : List TypeTuple} {ts us : Words} {r : Pos} (p q o : Pos) → SpellsTuple a ts → SpellsTuples r rest us
-        → SpellsTuples p (a ∷ rest) (symbol s.OpenParen p ∷ ts ++ symbol s.CloseParen q ∷ symbol s.Pipe o ∷ us)
+    last_tuple : {xs : List TypeExpr} {tail : Option TypeExpr} {ts : Words} (p q : Pos) → SpellsTuple xs tail ts → SpellsTuples p (tuple xs tail ∷ []) (symbol s.OpenParen p ∷ ts ++ symbol s.CloseParen q ∷ [])
+    more_tuples : {xs : List TypeExpr} {tail : Option TypeExpr} {rest : List TypeTuple} {ts us : Words} {r : Pos} (p q o : Pos) → SpellsTuple xs tail ts → SpellsTuples r rest us
+        → SpellsTuples p (tuple xs tail ∷ rest) (symbol s.OpenParen p ∷ ts ++ symbol s.CloseParen q ∷ symbol s.Pipe o ∷ us)
 
   -- results that begin with `(` are tuples
   pub data SpellsResults : Ending → TypeResults → Words → Type 0 where

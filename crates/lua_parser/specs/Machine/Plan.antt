@@ -29,7 +29,6 @@ pub data Item : Type 0 where
   -- types
   a_type : Item
   a_member : Item
-  a_plain_member : Item
   negated : Pos → Item
   more_of_union : After → Item
   more_of_name : List ℕ → Item
@@ -53,7 +52,6 @@ pub data Item : Type 0 where
   an_expr : ℕ → ℕ → Item
   operations : ℕ → ℕ → Expr → ℕ → Bool → Item
   suffixes : Form → Expr → ℕ → Item
-  a_prefix : ℕ → Item
   some_arguments : ℕ → Item
   rest_of_arguments : ℕ → Item
   exprs : ℕ → Item
@@ -80,13 +78,13 @@ pub data Item : Type 0 where
   maybe_init : ℕ → Item
   behind_name : Bool → Name → ℕ → Item
   rest_of_stat : Form → Expr → ℕ → Item
-  rest_of_targets : Form → Expr → ℕ → Item
+  targets : Form → Expr → ℕ → Item
+  next_target : ℕ → Item
 
 -- what a part gives: its tree, for the most part with the next number of a use, and whether a call may follow
 abbrev pub Gives : Item → Type 0
 Gives Item.a_type = TypeExpr
 Gives Item.a_member = TypeExpr × After
-Gives Item.a_plain_member = TypeExpr
 Gives (Item.negated p) = TypeExpr
 Gives (Item.more_of_union a) = List TypeExpr
 Gives (Item.more_of_name t) = List (List ℕ) × List ℕ
@@ -109,7 +107,6 @@ Gives Item.maybe_separator = Unit {0}
 Gives (Item.an_expr l n) = Expr × ℕ × Bool
 Gives (Item.operations l h a n c) = Expr × ℕ × Bool
 Gives (Item.suffixes f a n) = Form × Expr × ℕ
-Gives (Item.a_prefix n) = Form × Expr × ℕ
 Gives (Item.some_arguments n) = List Expr × ℕ
 Gives (Item.rest_of_arguments n) = List Expr × ℕ
 Gives (Item.exprs n) = List Expr × ℕ × Bool
@@ -135,7 +132,8 @@ Gives Item.more_typed = List Typed
 Gives (Item.maybe_init n) = List Expr × ℕ × Bool
 Gives (Item.behind_name o x n) = Stat × ℕ × Bool
 Gives (Item.rest_of_stat f a n) = Stat × ℕ × Bool
-Gives (Item.rest_of_targets f a n) = List Expr × List Expr × ℕ × Bool
+Gives (Item.targets f a n) = Expr × List Expr × List Expr × ℕ × Bool
+Gives (Item.next_target n) = Expr × List Expr × List Expr × ℕ × Bool
 
 -- what is still to be read: nothing more, one word of fixed spelling, a name, or a part; and what then
 pub data Plan (A : Type 0) : Type 0 where

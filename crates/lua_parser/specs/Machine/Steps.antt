@@ -239,7 +239,6 @@ field_step x p k =
 abbrev pub types_step : ModuleKind → (j : Item) → Pos → WordKind → Reply (Gives j)
 types_step kind Item.a_type p k = begun (start_type p k)
 types_step kind Item.a_member p k = begun (start_member p k)
-types_step kind Item.a_plain_member p k = begun (start_plain p k)
 types_step kind (Item.negated o) p k = if_number k (λ n. takes (done (t.Int o (int_wrap w64 (neg_ℤ n))))) stuck
 types_step kind (Item.more_of_union a) p k = member_step a p k
 types_step kind (Item.more_of_name x) p k = name_step x k
@@ -307,12 +306,6 @@ abbrev pub if_binary : {A : Type 0} → Option BinaryOperator → (BinaryOperato
 if_binary (Some o) f a = f o
 if_binary None f a = a
 
-abbrev pub paren_then : {A : Type 0} → ℕ → Pos → (Form × Expr × ℕ → Plan A) → Plan A
-paren_then n p f = read (Item.an_expr 1 n) λ a. want (sign s.CloseParen) λ _. read (Item.suffixes Enclosed (e.Paren p a.0) a.1) f
-
-abbrev pub name_then : {A : Type 0} → ℕ → Pos → List ℕ → (Form × Expr × ℕ → Plan A) → Plan A
-name_then n p x f = read (Item.suffixes Target (e.Name p n x) (n + 1)) f
-
 abbrev pub operand : ℕ → Pos → WordKind → Option (Plan (Expr × ℕ × Bool))
 operand n p k =
     if is_key w.Nil k then Some (done (e.Nil p, n, false))
@@ -320,11 +313,11 @@ operand n p k =
     else (if is_key w.True k then Some (done (e.Bool p true, n, false))
     else (if is_sign s.Dots k then Some (done (e.Vararg p, n, false))
     else (if is_key w.Function k then Some (read (Item.a_body n) λ b. done (e.Function p b.0, b.1, false))
-    else (if is_sign s.OpenParen k then Some (paren_then n p λ a. done (a.1, a.2, true))
+    else (if is_sign s.OpenParen k then Some (read (Item.an_expr 1 n) λ a. want (sign s.CloseParen) λ _. read (Item.suffixes Enclosed (e.Paren p a.0) a.1) λ v. done (v.1, v.2, true))
     else (if is_sign s.OpenBrace k then Some (read (Item.entries n) λ es. done (e.Table p es.0, es.1, false))
     else if_number k (λ i. Some (done (e.Int p i, n, false))
         ) (if_text k (λ x. Some (done (e.Str p x, n, false))
-        ) (if_name k (λ x. Some (name_then n p x λ a. done (a.1, a.2, true))
+        ) (if_name k (λ x. Some (read (Item.suffixes Target (e.Name p n x) (n + 1)) λ v. done (v.1, v.2, true))
         ) (if_unary (unary_at k) (λ o. Some (unary_plan n p o)) None)))))))))
 
 abbrev pub start_expr : ℕ → ℕ → Pos → WordKind → Option (Plan (Expr × ℕ × Bool))
@@ -342,17 +335,21 @@ operations_step l h a n c k =
             else ends (a, n, c))
         (ends (a, n, c))
 
-abbrev pub call_then : Expr → List Expr × ℕ → Plan (Form × Expr × ℕ)
-call_then a es = read (Item.suffixes Called (e.Call (place a) a es.0) es.1) done
+abbrev pub called : Expr → List Expr × ℕ → Plan (Form × Expr × ℕ)
+called a es = done (Called, e.Call (place a) a es.0, es.1)
+
+-- one more part of a prefix
+abbrev pub suffix : Expr → ℕ → Pos → WordKind → Option (Plan (Form × Expr × ℕ))
+suffix a n p k =
+    if is_sign s.Dot k then Some (want_name λ x. done (Target, e.Field (place a) a x, n))
+    else (if is_sign s.OpenBracket k then Some (read (Item.an_expr 1 n) λ b. want (sign s.CloseBracket) λ _. done (Target, e.Index (place a) a b.0, b.1))
+    else (if is_sign s.Colon k then Some (want_name λ x. read (Item.some_arguments n) λ es. done (Called, e.Method (place a) a x es.0, es.1))
+    else (if is_sign s.OpenParen k then Some (read (Item.rest_of_arguments n) λ es. called a es)
+    else (if is_sign s.OpenBrace k then Some (read (Item.entries n) λ es. called a (e.Table p es.0 ∷ [], es.1))
+    else if_text k (λ x. Some (called a (e.Str p x ∷ [], n))) None))))
 
 abbrev pub suffix_step : Form → Expr → ℕ → Pos → WordKind → Reply (Form × Expr × ℕ)
-suffix_step f a n p k =
-    if is_sign s.Dot k then takes (want_name λ x. read (Item.suffixes Target (e.Field (place a) a x) n) done)
-    else (if is_sign s.OpenBracket k then takes (read (Item.an_expr 1 n) λ b. want (sign s.CloseBracket) λ _. read (Item.suffixes Target (e.Index (place a) a b.0) b.1) done)
-    else (if is_sign s.Colon k then takes (want_name λ x. read (Item.some_arguments n) λ es. read (Item.suffixes Called (e.Method (place a) a x es.0) es.1) done)
-    else (if is_sign s.OpenParen k then takes (read (Item.rest_of_arguments n) λ es. call_then a es)
-    else (if is_sign s.OpenBrace k then takes (read (Item.entries n) λ es. call_then a (e.Table p es.0 ∷ [], es.1))
-    else if_text k (λ x. takes (call_then a (e.Str p x ∷ [], n))) (ends (f, a, n))))))
+suffix_step f a n p k = or_ends (going (suffix a n p k) (λ v. read (Item.suffixes v.0 v.1 v.2) done)) (f, a, n)
 
 abbrev pub named_entry_step : Name → ℕ → Pos → WordKind → Reply (Entry × ℕ)
 named_entry_step x n p k =
@@ -371,8 +368,6 @@ abbrev pub exprs_step : ModuleKind → (j : Item) → Pos → WordKind → Reply
 exprs_step kind (Item.an_expr l n) p k = begun (start_expr l n p k)
 exprs_step kind (Item.operations l h a n c) p k = operations_step l h a n c k
 exprs_step kind (Item.suffixes f a n) p k = suffix_step f a n p k
-exprs_step kind (Item.a_prefix n) p k =
-    if is_sign s.OpenParen k then takes (paren_then n p done) else if_name k (λ x. takes (name_then n p x done)) stuck
 exprs_step kind (Item.some_arguments n) p k =
     if is_sign s.OpenParen k then takes (read (Item.rest_of_arguments n) done)
     else (if is_sign s.OpenBrace k then takes (read (Item.entries n) λ es. done (e.Table p es.0 ∷ [], es.1))
@@ -418,7 +413,7 @@ start_stat outer n p k =
     else (if is_key w.For k then Some (want_name λ x. read (Item.rest_of_for p x n) λ r. done (r.0, r.1, false))
     else (if is_key w.Function k then Some (want_name λ x. read (Item.rest_of_function p (e.Name x.pos n x.text) (n + 1)) λ r. done (r.0, r.1, false))
     else (if is_key w.Local k then Some (read (Item.rest_of_local p n) done)
-    else (if is_sign s.OpenParen k then Some (paren_then n p λ a. read (Item.rest_of_stat a.0 a.1 a.2) done)
+    else (if is_sign s.OpenParen k then Some (read (Item.an_expr 1 n) λ a. want (sign s.CloseParen) λ _. read (Item.rest_of_stat Enclosed (e.Paren p a.0) a.1) done)
     else if_name k (λ x. Some (read (Item.behind_name outer (name_at p x) n) done)) None)))))))))
 
 abbrev pub block_step : Bool → ℕ → Bool → Pos → WordKind → Reply (Gives (Item.a_block true 0 true))
@@ -427,24 +422,34 @@ block_step outer n c p k =
     else (if c && opens k then stuck
     else or_ends (going (start_stat outer n p k) (λ x. read (Item.a_block outer x.1 x.2) λ r. done (x.0 ∷ r.0, r.1, r.2))) ([], None, n))
 
-abbrev pub targets_step : Form → Expr → ℕ → WordKind → Reply (List Expr × List Expr × ℕ × Bool)
-targets_step Target a n k =
-    if is_sign s.Assign k then takes (read (Item.exprs n) λ es. done (a ∷ [], es.0, es.1, es.2))
-    else (if is_sign s.Comma k then takes (read (Item.a_prefix n) λ d. read (Item.rest_of_targets d.0 d.1 d.2) λ r. done (a ∷ r.0, r.1, r.2, r.3)) else stuck)
-targets_step f a n k = stuck
+-- what takes the word, or else another reply
+abbrev pub or_else : {A : Type 0} → Option (Plan A) → Reply A → Reply A
+or_else None r = r
+or_else (Some p) r = takes p
 
-abbrev pub rest_of_stat_step : Form → Expr → ℕ → WordKind → Reply (Stat × ℕ × Bool)
-rest_of_stat_step Called a n k = ends (stat.Call (place a) a, n, true)
-rest_of_stat_step f a n k = both (targets_step f a n k) (λ r. stuck) (λ r. done (stat.Assign (place a) r.0 r.1, r.2, r.3))
+abbrev pub values_step : Form → Expr → ℕ → WordKind → Reply (Expr × List Expr × List Expr × ℕ × Bool)
+values_step Target a n k =
+    if is_sign s.Assign k then takes (read (Item.exprs n) λ es. done (a, [], es.0, es.1, es.2))
+    else (if is_sign s.Comma k then takes (read (Item.next_target n) λ r. done (a, r.0 ∷ r.1, r.2, r.3, r.4)) else stuck)
+values_step f a n k = stuck
+
+abbrev pub targets_step : Form → Expr → ℕ → Pos → WordKind → Reply (Expr × List Expr × List Expr × ℕ × Bool)
+targets_step f a n p k = or_else (going (suffix a n p k) (λ v. read (Item.targets v.0 v.1 v.2) done)) (values_step f a n k)
+
+abbrev pub assigned : Expr × List Expr × List Expr × ℕ × Bool → Stat × ℕ × Bool
+assigned r = (stat.Assign (place r.0) (r.0 ∷ r.1) r.2, r.3, r.4)
+
+abbrev pub end_of_stat : Form → Expr → ℕ → WordKind → Reply (Stat × ℕ × Bool)
+end_of_stat Called a n k = ends (stat.Call (place a) a, n, true)
+end_of_stat f a n k = both (values_step f a n k) (λ r. stuck) (λ r. done (assigned r))
+
+abbrev pub rest_of_stat_step : Form → Expr → ℕ → Pos → WordKind → Reply (Stat × ℕ × Bool)
+rest_of_stat_step f a n p k = or_else (going (suffix a n p k) (λ v. read (Item.rest_of_stat v.0 v.1 v.2) done)) (end_of_stat f a n k)
 
 abbrev pub type_stat_step : Name → ℕ → Pos → List ℕ → Reply (Stat × ℕ × Bool)
 type_stat_step x n p y =
     if is_text x.text (codes "interface") then takes (read Item.fields_of_interface λ fs. done (stat.Interface x.pos (name_at p y) fs, n, true))
     else (if is_text x.text (codes "typealias") then takes (want (sign s.Assign) λ _. read Item.a_type λ a. done (stat.Alias x.pos (name_at p y) a, n, true)) else stuck)
-
-abbrev pub named_stat_step : Name → ℕ → Pos → WordKind → Reply (Stat × ℕ × Bool)
-named_stat_step x n p k =
-    both (suffix_step Target (e.Name x.pos n x.text) (n + 1) p k) (λ a. rest_of_stat_step a.0 a.1 a.2 k) (λ a. read (Item.rest_of_stat a.0 a.1 a.2) done)
 
 abbrev pub step : ModuleKind → (j : Item) → Pos → WordKind → Reply (Gives j)
 step kind (Item.a_block outer n c) p k = block_step outer n c p k
@@ -471,7 +476,11 @@ step kind (Item.rest_of_local o n) p k =
 step kind Item.more_typed p k = if is_sign s.Comma k then takes (want_name λ x. read Item.annotation λ a. read Item.more_typed λ r. done (typed x a ∷ r)) else ends []
 step kind (Item.maybe_init n) p k = if is_sign s.Assign k then takes (read (Item.exprs n) done) else ends ([], n, false)
 step kind (Item.behind_name outer x n) p k =
-    if outer && is_typed kind then if_name k (λ y. type_stat_step x n p y) (named_stat_step x n p k) else named_stat_step x n p k
-step kind (Item.rest_of_stat f a n) p k = rest_of_stat_step f a n k
-step kind (Item.rest_of_targets f a n) p k = targets_step f a n k
+    if outer && is_typed kind then if_name k (λ y. type_stat_step x n p y) (rest_of_stat_step Target (e.Name x.pos n x.text) (n + 1) p k)
+    else rest_of_stat_step Target (e.Name x.pos n x.text) (n + 1) p k
+step kind (Item.rest_of_stat f a n) p k = rest_of_stat_step f a n p k
+step kind (Item.targets f a n) p k = targets_step f a n p k
+step kind (Item.next_target n) p k =
+    if is_sign s.OpenParen k then takes (read (Item.an_expr 1 n) λ a. want (sign s.CloseParen) λ _. read (Item.targets Enclosed (e.Paren p a.0) a.1) done)
+    else if_name k (λ x. takes (read (Item.targets Target (e.Name p n x) (n + 1)) done)) stuck
 step kind j p k = exprs_step kind j p k
