@@ -1,3 +1,5 @@
 pub mod Means
 pub mod Plans
 pub mod Types
+pub mod Exprs
+pub mod Stats

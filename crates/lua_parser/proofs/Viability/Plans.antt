@@ -184,6 +184,12 @@ module _ (kind : ModuleKind) where
   begins_as F G x None h b = tt
   begins_as F G x (Some p) h b = ensures_map (λ v ts. F v (x ∷ ts)) (λ v ts. G v (x ∷ ts)) p (λ v ts f. h v (x ∷ ts) f) b
 
+  pub meets_as : {A : Type 0} (F G : A → Words → Type 0) (x : Word) (r : Reply A) → ((v : A) (ts : Words) → F v ts → G v ts) → Meets kind F x r → Meets kind G x r
+  unfolding Meets
+  meets_as F G x stuck h b = tt
+  meets_as F G x (ends a) h b = h a [] b
+  meets_as F G x (takes p) h b = ensures_map (λ v ts. F v (x ∷ ts)) (λ v ts. G v (x ∷ ts)) p (λ v ts f. h v (x ∷ ts) f) b
+
   module _ {A : Type 0} (G : A → Words → Type 0) where
     pub begins_if : (m : Mark) (p : Pos) (k : WordKind) (f : Plan A) (o : Option (Plan A)) → Ensures kind f (λ v ts. G v (marked m p ∷ ts))
         → Begins kind G (record { kind = k; pos = p }) o → Begins kind G (record { kind = k; pos = p }) (if is_mark m k then Some f else o)

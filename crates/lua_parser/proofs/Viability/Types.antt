@@ -23,7 +23,7 @@ use Rattle.lua_parser.proofs.Viability.Means.{Means, Ensures, AsMember, AsResult
 use Rattle.lua_parser.proofs.Viability.Plans.{Begins, word_is, begins_as, Meets, begins_none, begins_some, meets_stuck, meets_ends, meets_takes, begins_if, begins_name, begins_number, begins_text, begins_going, begins_with, opens_is, meets_if, meets_if_not, meets_name, meets_number, meets_begun, meets_both, meets_either}
 
 -- the word of a kind at a place
-abbrev at : Pos → WordKind → Word
+abbrev pub at : Pos → WordKind → Word
 at p k = record { kind = k; pos = p }
 
 -- there is a first word, and it is no `(`
@@ -242,11 +242,11 @@ module _ (kind : ModuleKind) where
               (λ a ts m xs us l q. array_named o x d a xs [] ts us [] q n m l))
           (λ d us n a vs m xs ws l q. array_named o x d a xs us vs ws [] q n m l)))
 
-  typed_kind : (k : ModuleKind) → is_typed k ≡ true → k ≡ module_kind.Typed
+  pub typed_kind : (k : ModuleKind) → is_typed k ≡ true → k ≡ module_kind.Typed
   typed_kind module_kind.Typed h = refl
   typed_kind module_kind.Untyped h = cc
 
-  both_true : (a b : Bool) → (a && b) ≡ true → (a ≡ true) × (b ≡ true)
+  pub both_true : (a b : Bool) → (a && b) ≡ true → (a ≡ true) × (b ≡ true)
   both_true true b h = (refl, h)
   both_true false b h = cc
 
