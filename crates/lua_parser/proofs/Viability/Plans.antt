@@ -323,3 +323,16 @@ module _ (kind : ModuleKind) where
     pub begins_some : (x : Word) (p : Plan A) → Ensures kind p (λ v ts. G v (x ∷ ts)) → Begins kind G x (Some p)
     unfolding Begins
     begins_some x p g = g
+
+    pub meets_read : (x : Word) (j : Item) (r : Reply (Gives j)) (m : Gives j → Reply A) (k : Gives j → Plan A) → Meets kind (Means kind j) x r → Ensures kind (read j k) G → ((a : Gives j) → Ensures kind (k a) G → Meets kind G x (m a))
+        → Meets kind G x (elim r as (λ y. Reply A) [ stuck ↦ stuck | ends a ↦ m a | takes p ↦ takes (onward p k) ])
+    unfolding Meets
+    meets_read x j stuck m k b g h = tt
+    meets_read x j (ends a) m k b g h = h a (g a [] b)
+    meets_read x j (takes p) m k b g h = ensures_onward (λ v ts. Means kind j v (x ∷ ts)) (λ v ts. G v (x ∷ ts)) p k (λ v ts. g v (x ∷ ts)) b
+
+    pub meets_taken : (x : Word) (r : Reply A) (p : Plan A) → r ≡ takes p → Meets kind G x r → Ensures kind p (λ v ts. G v (x ∷ ts))
+    unfolding Meets
+    meets_taken x (takes q) p e b = let d : q ≡ p = cc in subst (λ z. Ensures kind z (λ v ts. G v (x ∷ ts))) d b
+    meets_taken x stuck p e b = cc
+    meets_taken x (ends a) p e b = cc
