@@ -1,3 +1,4 @@
 pub mod Examples
 pub mod Operators
 pub mod Viability
+pub mod Completeness
