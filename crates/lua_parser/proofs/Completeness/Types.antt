@@ -333,3 +333,44 @@ module _ (kind : ModuleKind) where
         ∙ ap (run kind (tuple_then λ a. read Item.more_results λ r. k p (tuple a.0 a.1 ∷ r.0) r.1)) (append_assoc ts (symbol s.CloseParen q ∷ symbol s.Pipe o ∷ vs) (symbol s.Pipe i ∷ us))
         ∙ tuple_reads d (λ a. want (sign s.CloseParen) λ _. read Item.more_results λ r. k p (tuple a.0 a.1 ∷ r.0) r.1) q (symbol s.Pipe o ∷ vs ++ symbol s.Pipe i ∷ us)
         ∙ tuples_join e (read Item.behind_bar λ r. k p (tuple xs rest ∷ r.0) r.1) (λ l ys r. k p (tuple xs rest ∷ ys) r) (λ l ws. refl) i us j
+
+  -- the tuples of a body's results, where a plan begins with the first of them
+  body_tuples : {p : Pos} {xs : List TypeTuple} {ts : Words} → SpellsTuples p xs ts → {A : Type 0} (P : Plan A) (k : Pos → List TypeTuple → Plan A)
+      → ((o : Pos) (us : Words) → run kind P (symbol s.OpenParen o ∷ us) ≡ run kind (tuple_then λ a. read Item.more_body_results λ r. k o (tuple a.0 a.1 ∷ r)) us) → (y : Word) (us : Words) → is_sign s.Pipe y.kind ≡ false
+      → run kind P (ts ++ y ∷ us) ≡ run kind (k p xs) (y ∷ us)
+  body_tuples (SpellsTuples.last_tuple {xs = xs} {tail = rest} {ts = ts} p q d) P k f y us h = f p ((ts ++ symbol s.CloseParen q ∷ []) ++ y ∷ us)
+      ∙ ap (run kind (tuple_then λ a. read Item.more_body_results λ r. k p (tuple a.0 a.1 ∷ r))) (append_assoc ts (symbol s.CloseParen q ∷ []) (y ∷ us))
+      ∙ tuple_reads d (λ a. want (sign s.CloseParen) λ _. read Item.more_body_results λ r. k p (tuple a.0 a.1 ∷ r)) q (y ∷ us) ∙ body_results_end (λ r. k p (tuple xs rest ∷ r)) y us h
+  body_tuples (SpellsTuples.more_tuples {xs = xs} {tail = rest} {ts = ts} {us = vs} p q o d e) P k f y us h = f p ((ts ++ symbol s.CloseParen q ∷ symbol s.Pipe o ∷ vs) ++ y ∷ us)
+      ∙ ap (run kind (tuple_then λ a. read Item.more_body_results λ r. k p (tuple a.0 a.1 ∷ r))) (append_assoc ts (symbol s.CloseParen q ∷ symbol s.Pipe o ∷ vs) (y ∷ us))
+      ∙ tuple_reads d (λ a. want (sign s.CloseParen) λ _. read Item.more_body_results λ r. k p (tuple a.0 a.1 ∷ r)) q (symbol s.Pipe o ∷ vs ++ y ∷ us)
+      ∙ body_tuples e (want (sign s.OpenParen) λ _. tuple_then λ a. read Item.more_body_results λ r. k p (tuple xs rest ∷ tuple a.0 a.1 ∷ r)) (λ i ys. k p (tuple xs rest ∷ ys)) (λ i ws. refl) y us h
+
+  body_results_first : {A : Type 0} (k : TypeResults → Plan A) (ts us : Words) → First ts → begins_open ts ≡ false → run kind (read Item.body_results k) (ts ++ us) ≡ run kind (read Item.a_type λ y. k (single_result y)) (ts ++ us)
+  body_results_first k ts us f j =
+      let e = ap (λ z. z ++ us) f.2 in ap (run kind (read Item.body_results k)) e ∙ body_results_unfold k f.0 (f.1 ++ us) (sym (opens_is f.0.kind) ∙ subst (λ z. begins_open z ≡ false) f.2 j) ∙ sym (ap (run kind (read Item.a_type λ y. k (single_result y))) e)
+
+  pub body_results_reads : {r : Ending} {x : TypeResults} {ts : Words} → SpellsResults r x ts → {A : Type 0} (k : TypeResults → Plan A) (y : Word) (us : Words) → TypeEnd y.kind → run kind (read Item.body_results k) (ts ++ y ∷ us) ≡ run kind (k x) (y ∷ us)
+  body_results_reads (SpellsResults.tuple_results d) k y us h = body_tuples d (read Item.body_results k) (λ p xs. k (results p xs)) (λ o vs. refl) y us h.no_bar
+  body_results_reads (SpellsResults.type_results {ts = ts} d j) k y us h = body_results_first k ts (y ∷ us) (type_first d) j ∙ type_reads d (λ x. k (single_result x)) y us h
+
+  -- what follows a field of an interface
+  behind_field : {A : Type 0} (Q : Plan A) {fs : List TypeField} {us vs : Words} → SpellsSeparator us → SpellsInterface fs vs → (z : Pos) (ws : Words)
+      → (y : Word) × (xs : Words) × (us ++ (vs ++ keyword w.End z ∷ ws) ≡ y ∷ xs) × TypeEnd y.kind × (run kind (read Item.maybe_separator λ _. Q) (y ∷ xs) ≡ run kind Q (vs ++ keyword w.End z ∷ ws))
+  behind_field Q (SpellsSeparator.comma p) d z ws = (symbol s.Comma p, _, refl, record { no_bar = refl; no_mark = refl; no_dot = refl; no_arrow = refl }, refl)
+  behind_field Q (SpellsSeparator.semicolon p) d z ws = (symbol s.Semicolon p, _, refl, record { no_bar = refl; no_mark = refl; no_dot = refl; no_arrow = refl }, refl)
+  behind_field Q SpellsSeparator.no_separator SpellsInterface.no_fields z ws = (keyword w.End z, _, refl, record { no_bar = refl; no_mark = refl; no_dot = refl; no_arrow = refl }, refl)
+  behind_field Q SpellsSeparator.no_separator (SpellsInterface.next_field (SpellsField.plain_field n q d) j e) z ws = (named n, _, refl, record { no_bar = refl; no_mark = refl; no_dot = refl; no_arrow = refl }, refl)
+  behind_field Q SpellsSeparator.no_separator (SpellsInterface.next_field (SpellsField.const_field o n q d) j e) z ws = (named (name_at o (codes "const")), _, refl, record { no_bar = refl; no_mark = refl; no_dot = refl; no_arrow = refl }, refl)
+
+  interface_field : {f : TypeField} {ts : Words} → SpellsField f ts → {A : Type 0} (k : List TypeField → Plan A) (y : Word) (us : Words) → TypeEnd y.kind
+      → run kind (read Item.fields_of_interface k) (ts ++ y ∷ us) ≡ run kind (read Item.maybe_separator λ _. read Item.fields_of_interface λ fs. k (f ∷ fs)) (y ∷ us)
+  interface_field (SpellsField.plain_field n q d) k y us h = type_reads d (λ a. read Item.maybe_separator λ _. read Item.fields_of_interface λ fs. k (field false n a ∷ fs)) y us h
+  interface_field (SpellsField.const_field o n q d) k y us h = type_reads d (λ a. read Item.maybe_separator λ _. read Item.fields_of_interface λ fs. k (field true n a ∷ fs)) y us h
+
+  pub interface_reads : {fs : List TypeField} {ts : Words} → SpellsInterface fs ts → {A : Type 0} (k : List TypeField → Plan A) (z : Pos) (us : Words) → run kind (read Item.fields_of_interface k) (ts ++ keyword w.End z ∷ us) ≡ run kind (k fs) us
+  interface_reads SpellsInterface.no_fields k z us = refl
+  interface_reads (SpellsInterface.next_field {f = f} {ts = ts} {us = vs} {vs = ws} d j e) k z us =
+      let b = behind_field (read Item.fields_of_interface λ fs. k (f ∷ fs)) j e z us in
+      ap (run kind (read Item.fields_of_interface k)) (append_assoc ts (vs ++ ws) (keyword w.End z ∷ us) ∙ ap (λ x. ts ++ x) (append_assoc vs ws (keyword w.End z ∷ us) ∙ b.2))
+      ∙ interface_field d k b.0 b.1 b.3 ∙ b.4 ∙ interface_reads e (λ fs. k (f ∷ fs)) z us
