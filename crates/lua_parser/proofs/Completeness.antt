@@ -1,3 +1,5 @@
 pub mod Plans
 pub mod Firsts
 pub mod Types
+pub mod Ends
+pub mod Begins
