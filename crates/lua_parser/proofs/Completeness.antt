@@ -3,3 +3,4 @@ pub mod Firsts
 pub mod Types
 pub mod Ends
 pub mod Begins
+pub mod Steps
