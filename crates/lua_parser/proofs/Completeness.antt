@@ -4,3 +4,4 @@ pub mod Types
 pub mod Ends
 pub mod Begins
 pub mod Steps
+pub mod Reads

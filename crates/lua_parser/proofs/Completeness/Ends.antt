@@ -333,26 +333,26 @@ operator_no_suffix b.Divide a n p = refl
 operator_no_suffix b.Modulo a n p = refl
 
 -- an operator is left associative, or is `..`
-pub associates : (o : BinaryOperator) → ((left_level o ≡ level o) × (right_level o ≡ level o + 1) × (level o ≡ 8 → ⊥)) ⊎ ((level o ≡ 8) × (left_level o ≡ 9) × (right_level o ≡ 8))
-associates b.Or = inl (refl, refl, λ e. omega (arith, e))
-associates b.And = inl (refl, refl, λ e. omega (arith, e))
-associates b.Less = inl (refl, refl, λ e. omega (arith, e))
-associates b.Greater = inl (refl, refl, λ e. omega (arith, e))
-associates b.LessEqual = inl (refl, refl, λ e. omega (arith, e))
-associates b.GreaterEqual = inl (refl, refl, λ e. omega (arith, e))
-associates b.NotEqual = inl (refl, refl, λ e. omega (arith, e))
-associates b.Equal = inl (refl, refl, λ e. omega (arith, e))
-associates b.BitOr = inl (refl, refl, λ e. omega (arith, e))
-associates b.BitXor = inl (refl, refl, λ e. omega (arith, e))
-associates b.BitAnd = inl (refl, refl, λ e. omega (arith, e))
-associates b.ShiftLeft = inl (refl, refl, λ e. omega (arith, e))
-associates b.ShiftRight = inl (refl, refl, λ e. omega (arith, e))
+pub associates : (o : BinaryOperator) → ((left_level o ≡ level o) × (right_level o ≡ level o + 1) × ((level o < 8) ⊎ (8 < level o))) ⊎ ((level o ≡ 8) × (left_level o ≡ 9) × (right_level o ≡ 8))
+associates b.Or = inl (refl, refl, inl (omega arith))
+associates b.And = inl (refl, refl, inl (omega arith))
+associates b.Less = inl (refl, refl, inl (omega arith))
+associates b.Greater = inl (refl, refl, inl (omega arith))
+associates b.LessEqual = inl (refl, refl, inl (omega arith))
+associates b.GreaterEqual = inl (refl, refl, inl (omega arith))
+associates b.NotEqual = inl (refl, refl, inl (omega arith))
+associates b.Equal = inl (refl, refl, inl (omega arith))
+associates b.BitOr = inl (refl, refl, inl (omega arith))
+associates b.BitXor = inl (refl, refl, inl (omega arith))
+associates b.BitAnd = inl (refl, refl, inl (omega arith))
+associates b.ShiftLeft = inl (refl, refl, inl (omega arith))
+associates b.ShiftRight = inl (refl, refl, inl (omega arith))
 associates b.Concat = inr (refl, refl, refl)
-associates b.Add = inl (refl, refl, λ e. omega (arith, e))
-associates b.Subtract = inl (refl, refl, λ e. omega (arith, e))
-associates b.Multiply = inl (refl, refl, λ e. omega (arith, e))
-associates b.Divide = inl (refl, refl, λ e. omega (arith, e))
-associates b.Modulo = inl (refl, refl, λ e. omega (arith, e))
+associates b.Add = inl (refl, refl, inr (omega arith))
+associates b.Subtract = inl (refl, refl, inr (omega arith))
+associates b.Multiply = inl (refl, refl, inr (omega arith))
+associates b.Divide = inl (refl, refl, inr (omega arith))
+associates b.Modulo = inl (refl, refl, inr (omega arith))
 
 pub level_fits : (o : BinaryOperator) → level o < unary_level
 level_fits b.Or = omega arith
@@ -374,3 +374,24 @@ level_fits b.Subtract = omega arith
 level_fits b.Multiply = omega arith
 level_fits b.Divide = omega arith
 level_fits b.Modulo = omega arith
+
+pub right_above : (o : BinaryOperator) → level o ≤ right_level o
+right_above b.Or = omega arith
+right_above b.And = omega arith
+right_above b.Less = omega arith
+right_above b.Greater = omega arith
+right_above b.LessEqual = omega arith
+right_above b.GreaterEqual = omega arith
+right_above b.NotEqual = omega arith
+right_above b.Equal = omega arith
+right_above b.BitOr = omega arith
+right_above b.BitXor = omega arith
+right_above b.BitAnd = omega arith
+right_above b.ShiftLeft = omega arith
+right_above b.ShiftRight = omega arith
+right_above b.Add = omega arith
+right_above b.Subtract = omega arith
+right_above b.Multiply = omega arith
+right_above b.Divide = omega arith
+right_above b.Modulo = omega arith
+right_above b.Concat = omega arith
