@@ -395,3 +395,24 @@ right_above b.Multiply = omega arith
 right_above b.Divide = omega arith
 right_above b.Modulo = omega arith
 right_above b.Concat = omega arith
+
+pub left_above : (o : BinaryOperator) → level o ≤ left_level o
+left_above b.Or = omega arith
+left_above b.And = omega arith
+left_above b.Less = omega arith
+left_above b.Greater = omega arith
+left_above b.LessEqual = omega arith
+left_above b.GreaterEqual = omega arith
+left_above b.NotEqual = omega arith
+left_above b.Equal = omega arith
+left_above b.BitOr = omega arith
+left_above b.BitXor = omega arith
+left_above b.BitAnd = omega arith
+left_above b.ShiftLeft = omega arith
+left_above b.ShiftRight = omega arith
+left_above b.Concat = omega arith
+left_above b.Add = omega arith
+left_above b.Subtract = omega arith
+left_above b.Multiply = omega arith
+left_above b.Divide = omega arith
+left_above b.Modulo = omega arith
