@@ -2,3 +2,4 @@ pub mod Examples
 pub mod Operators
 pub mod Viability
 pub mod Completeness
+pub mod Laws
