@@ -3,3 +3,4 @@ pub mod Operators
 pub mod Viability
 pub mod Completeness
 pub mod Laws
+pub mod Heads

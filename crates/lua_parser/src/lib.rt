@@ -1,6 +1,7 @@
 //! The grammar of Lua with optional types, and the reading of a module's tree.
 #![tactic(auto)]
 
+mod cursor;
 mod theorems;
 
 pub use theorems::at_most_one_tree;

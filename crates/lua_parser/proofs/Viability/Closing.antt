@@ -51,6 +51,7 @@ module _ (kind : ModuleKind) where
   pub closes : (j : Item) → (x : Gives j) × (ts : Words) × Means kind j x ts
   closes Item.a_type = (t.Nil o, nil_words, nil_spelled)
   closes Item.a_member = ((t.Nil o, ended InItself), nil_words, nil_member)
+  closes Item.a_plain_member = (t.Nil o, nil_words, nil_member)
   closes (Item.negated p) = (_, numeral (pos 0) o ∷ [], SpellsSimple.negative_type p o (pos 0))
   closes (Item.more_of_union joined) = (t.Nil o ∷ [], nil_words, λ x us a. rw a.2 (subst (SpellsMembers (x ∷ t.Nil o ∷ [])) (sym (append_assoc a.0 (symbol s.Pipe a.1 ∷ []) nil_words)) (SpellsMembers.more_members a.1 a.3 (SpellsMembers.last_member nil_member) refl)))
   closes (Item.more_of_union (ended r)) = ([], [], λ x us a. rw append-nil (SpellsMembers.last_member a))

@@ -45,6 +45,7 @@ pub data Assigns (kind : ModuleKind) : ℕ → ℕ → Bool → Expr → List Ex
 abbrev pub Means : ModuleKind → (j : Item) → Gives j → Words → Type 0
 Means kind Item.a_type x ts = SpellsType x ts
 Means kind Item.a_member m ts = AsMember m.1 m.0 ts
+Means kind Item.a_plain_member x ts = SpellsMember InItself x ts
 Means kind (Item.negated p) x ts = SpellsSimple x (symbol s.Minus p ∷ ts)
 Means kind (Item.more_of_union a) xs ts = (x : TypeExpr) (us : Words) → AsMember a x us → SpellsMembers (x ∷ xs) (us ++ ts)
 Means kind (Item.more_of_name x) d ts = (p : Pos) → SpellsDotted p d.0 d.1 (named (name_at p x) ∷ ts)

@@ -268,6 +268,7 @@ module _ (kind : ModuleKind) where
   pub meets_type : (j : Item) (p : Pos) (k : WordKind) → Meets kind (Means kind j) (at p k) (types_step kind j p k)
   meets_type Item.a_type p k = meets_begun kind (Means kind Item.a_type) _ _ (type_begins p k)
   meets_type Item.a_member p k = meets_begun kind (Means kind Item.a_member) _ _ (member_begins p k)
+  meets_type Item.a_plain_member p k = meets_begun kind (Means kind Item.a_plain_member) _ _ (begins_as kind Plain (Means kind Item.a_plain_member) (at p k) (start_plain p k) (λ v ts g. g.0) (plain_begins p k))
   meets_type (Item.negated o) p k = meets_negated o p k
   meets_type (Item.more_of_union a) p k = meets_union a p k
   meets_type (Item.more_of_name x) p k = meets_dotted x p k

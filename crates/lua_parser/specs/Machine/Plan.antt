@@ -29,6 +29,7 @@ pub data Item : Type 0 where
   -- types
   a_type : Item
   a_member : Item
+  a_plain_member : Item
   negated : Pos → Item
   more_of_union : After → Item
   more_of_name : List ℕ → Item
@@ -85,6 +86,7 @@ pub data Item : Type 0 where
 abbrev pub Gives : Item → Type 0
 Gives Item.a_type = TypeExpr
 Gives Item.a_member = TypeExpr × After
+Gives Item.a_plain_member = TypeExpr
 Gives (Item.negated p) = TypeExpr
 Gives (Item.more_of_union a) = List TypeExpr
 Gives (Item.more_of_name t) = List (List ℕ) × List ℕ

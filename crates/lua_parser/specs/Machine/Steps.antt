@@ -239,6 +239,7 @@ field_step x p k =
 abbrev pub types_step : ModuleKind → (j : Item) → Pos → WordKind → Reply (Gives j)
 types_step kind Item.a_type p k = begun (start_type p k)
 types_step kind Item.a_member p k = begun (start_member p k)
+types_step kind Item.a_plain_member p k = begun (start_plain p k)
 types_step kind (Item.negated o) p k = if_number k (λ n. takes (done (t.Int o (int_wrap w64 (neg_ℤ n))))) stuck
 types_step kind (Item.more_of_union a) p k = member_step a p k
 types_step kind (Item.more_of_name x) p k = name_step x k
