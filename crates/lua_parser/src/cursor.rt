@@ -1,5 +1,5 @@
 ghost use Rattle.std.specs.Prelude.{◌≡◌, ◌<◌, ◌∷◌, length, drop};
-ghost use Rattle.lua_parser.specs.Words.{Words, words_of, sign, key};
+ghost use Rattle.lua_parser.specs.Words.{Words, words_of, sign, key, slice_of};
 ghost use Rattle.lua_parser.specs.Outcomes.{head_is, head_pos, head_number, Eats, Takes, EatsText, TakesName};
 
 use lua_lexer::{Keyword, Symbol, Token, TokenKind};
@@ -157,5 +157,57 @@ impl<'a> Cursor<'a> {
         } else {
             Err(Stop::Unexpected)
         }
+    }
+
+    /// Takes the first token, if it is a string, and copies its bytes.
+    pub(crate) fn text(&mut self, alloc: Global) -> Result<Option<Bytes>, Stop>
+        ensures { EatsText self.old result self.new }
+    {
+        match self.rest.first() {
+            Some(token) => match &token.kind {
+                TokenKind::Str(bytes) => {
+                    let text = Bytes::from_slice(alloc, bytes.as_slice())?;
+                    self.advance();
+                    Ok(Some(text))
+                }
+                _ => Ok(None),
+            },
+            None => Ok(None),
+        }
+    }
+
+    /// Takes the first token, which has to be a name, and copies its text.
+    pub(crate) fn name(&mut self, alloc: Global) -> Result<Name, Stop>
+        ensures { TakesName self.old result self.new }
+    {
+        match self.rest.first() {
+            Some(token) => match &token.kind {
+                TokenKind::Name => {
+                    let text = Bytes::from_slice(alloc, slice_of(self.source, token))?;
+                    let pos = token.pos;
+                    self.advance();
+                    Ok(Name { pos, text })
+                }
+                _ => Err(Stop::Unexpected),
+            },
+            None => Err(Stop::Unexpected),
+        }
+    }
+}
+
+/// The text of a token in its source.
+fn slice_of<'a>(source: &'a [u8], token: &Token) -> &'a [u8]
+    ensures { result.now ≡ slice_of source.now token.now }
+{
+    let start = token.start as usize;
+    let end = token.end as usize;
+    if start >= source.len() || end <= start {
+        return &source[..0];
+    }
+    let tail = &source[start..];
+    if end - start >= tail.len() {
+        tail
+    } else {
+        &tail[..end - start]
     }
 }
