@@ -1,5 +1,5 @@
 pub mod Examples
-pub mod Operators
+pub mod Marks
 pub mod Viability
 pub mod Completeness
 pub mod Laws

@@ -4,11 +4,13 @@ use Rattle.tl_base.specs.declared.place.Pos.{Pos}
 use Rattle.tl_base.specs.declared.place.ModuleKind.{ModuleKind}
 use Rattle.lua_tree.specs.declared.annotation.Name.{Name}
 use Rattle.lua_tree.specs.declared.syntax.Block.{Block}
+use Rattle.lua_tree.specs.declared.syntax.UnaryOperator.{UnaryOperator}
+use Rattle.lua_tree.specs.declared.syntax.BinaryOperator.{BinaryOperator}
 use Rattle.lua_parser.specs.declared.cursor.Stop.{Stop}
 use Rattle.lua_parser.specs.declared.cursor.Stop.TheVariants as stop
 use Rattle.lua_parser.specs.Words.{Word, Words, WordKind, Mark, marked, named, numeral, quoted}
 use Rattle.lua_parser.specs.Machine.Plan.{Plan, onward}
-use Rattle.lua_parser.specs.Machine.Steps.{is_mark, if_name, if_number, if_text}
+use Rattle.lua_parser.specs.Machine.Steps.{is_mark, if_name, if_number, if_text, unary_at, binary_at}
 use Rattle.lua_parser.specs.Machine.Run.{run}
 
 -- whether the first word is this mark
@@ -32,6 +34,14 @@ head_name (x ∷ ts) = if_name x.kind (λ n. Some n) None
 abbrev pub head_text : Words → Option (List ℕ)
 head_text [] = None
 head_text (x ∷ ts) = if_text x.kind (λ n. Some n) None
+
+abbrev pub head_unary : Words → Option UnaryOperator
+head_unary [] = None
+head_unary (x ∷ ts) = unary_at x.kind
+
+abbrev pub head_binary : Words → Option BinaryOperator
+head_binary [] = None
+head_binary (x ∷ ts) = binary_at x.kind
 
 -- The mark was the first word and is taken, or it isn't and nothing is taken.
 abbrev pub Eats : Mark → Words → Bool → Words → Type 0

@@ -1,9 +1,10 @@
 ghost use Rattle.std.specs.Prelude.{◌≡◌, ◌<◌, ◌∷◌, length, drop};
-ghost use Rattle.lua_parser.specs.Words.{Words, words_of, sign, key, slice_of};
-ghost use Rattle.lua_parser.specs.Outcomes.{head_is, head_pos, head_number, Eats, Takes, EatsText, TakesName};
+ghost use Rattle.lua_parser.specs.Words.{Words, words_of, sign, key, mark, slice_of};
+ghost use Rattle.lua_parser.specs.Machine.Steps.{binary_at};
+ghost use Rattle.lua_parser.specs.Outcomes.{head_is, head_pos, head_number, head_unary, head_binary, Eats, Takes, EatsText, TakesName};
 
 use lua_lexer::{Keyword, Symbol, Token, TokenKind};
-use lua_tree::Name;
+use lua_tree::{BinaryOperator, Name, UnaryOperator};
 use std::alloc::Global;
 use std::marker::Model;
 use tl_base::{Bytes, NoMemory, Pos};
@@ -99,6 +100,37 @@ impl<'a> Cursor<'a> {
         match self.rest.first() {
             Some(token) => match &token.kind {
                 TokenKind::Int(number) => Some(*number),
+                _ => None,
+            },
+            None => None,
+        }
+    }
+
+    /// The operator before an operand that the first token is.
+    pub(crate) fn unary(&self) -> Option<UnaryOperator>
+        ensures { result ≡ head_unary self.now }
+    {
+        match self.rest.first() {
+            Some(token) => match &token.kind {
+                TokenKind::Word(Keyword::Not) => Some(UnaryOperator::Not),
+                TokenKind::Sym(Symbol::Hash) => Some(UnaryOperator::Length),
+                TokenKind::Sym(Symbol::Minus) => Some(UnaryOperator::Negate),
+                TokenKind::Sym(Symbol::Tilde) => Some(UnaryOperator::BitNot),
+                _ => None,
+            },
+            None => None,
+        }
+    }
+
+    /// The operator between operands that the first token is.
+    pub(crate) fn binary(&self) -> Option<BinaryOperator>
+        ensures { result ≡ head_binary self.now }
+    {
+        match self.rest.first() {
+            Some(token) => match &token.kind {
+                TokenKind::Word(Keyword::Or) => Some(BinaryOperator::Or),
+                TokenKind::Word(Keyword::And) => Some(BinaryOperator::And),
+                TokenKind::Sym(symbol) => binary_of(*symbol),
                 _ => None,
             },
             None => None,
@@ -209,5 +241,31 @@ fn slice_of<'a>(source: &'a [u8], token: &Token) -> &'a [u8]
         tail
     } else {
         &tail[..end - start]
+    }
+}
+
+/// The operator between operands that a symbol is.
+fn binary_of(symbol: Symbol) -> Option<BinaryOperator>
+    ensures { result ≡ binary_at (mark (sign symbol)) }
+{
+    match symbol {
+        Symbol::Less => Some(BinaryOperator::Less),
+        Symbol::Greater => Some(BinaryOperator::Greater),
+        Symbol::LessEqual => Some(BinaryOperator::LessEqual),
+        Symbol::GreaterEqual => Some(BinaryOperator::GreaterEqual),
+        Symbol::NotEqual => Some(BinaryOperator::NotEqual),
+        Symbol::Equal => Some(BinaryOperator::Equal),
+        Symbol::Pipe => Some(BinaryOperator::BitOr),
+        Symbol::Tilde => Some(BinaryOperator::BitXor),
+        Symbol::Ampersand => Some(BinaryOperator::BitAnd),
+        Symbol::ShiftLeft => Some(BinaryOperator::ShiftLeft),
+        Symbol::ShiftRight => Some(BinaryOperator::ShiftRight),
+        Symbol::Concat => Some(BinaryOperator::Concat),
+        Symbol::Plus => Some(BinaryOperator::Add),
+        Symbol::Minus => Some(BinaryOperator::Subtract),
+        Symbol::Star => Some(BinaryOperator::Multiply),
+        Symbol::DoubleSlash => Some(BinaryOperator::Divide),
+        Symbol::Percent => Some(BinaryOperator::Modulo),
+        _ => None,
     }
 }

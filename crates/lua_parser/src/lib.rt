@@ -2,6 +2,8 @@
 #![tactic(auto)]
 
 mod cursor;
+mod operators;
+mod reader;
 mod theorems;
 
 pub use theorems::at_most_one_tree;

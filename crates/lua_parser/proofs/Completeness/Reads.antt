@@ -29,7 +29,7 @@ use Rattle.lua_parser.specs.Grammar.Syntax.{Form, Target, Called, Enclosed, plac
 use Rattle.lua_parser.specs.Machine.Plan.{Item, Gives, Plan, done, want, want_name, read, Reply, stuck, ends, takes, onward}
 use Rattle.lua_parser.specs.Machine.Steps.{is_mark, is_sign, is_key, if_name, binary_at, suffix, start_exprs, body_then, block_then, assigned}
 use Rattle.lua_parser.specs.Machine.Run.{run, module_plan}
-use Rattle.lua_parser.proofs.Operators.{right_fits, left_fits, binary_at_mark}
+use Rattle.lua_parser.proofs.Marks.{right_fits, left_fits, binary_at_mark}
 use Rattle.lua_parser.proofs.Viability.Plans.{opens_is}
 use Rattle.lua_parser.proofs.Completeness.Types.{TypeEnd, type_reads, body_results_reads, interface_reads}
 use Rattle.lua_parser.proofs.Completeness.Ends.{Follow, EndsBlock, ends_follows, follow_no_op, follow_no_comma, follow_no_colon, follow_no_assign, follow_no_type, follow_no_suffix, ends_no_open, ends_no_exprs, ends_no_semicolon, after_use, operator_after_use, operator_no_suffix, associates, level_fits, right_above, left_above, end_ends, else_ends, elseif_ends, until_ends, finish_ends}

@@ -29,7 +29,7 @@ use Rattle.lua_parser.specs.Machine.Plan.{Item, Gives, Plan, done, want, want_na
 use Rattle.lua_parser.specs.Machine.Steps.{is_mark, is_sign, is_key, is_typed, if_name, if_unary, if_binary, unary_at, binary_at, unary_plan, operand, start_expr, start_exprs, operations_step, suffix, suffix_step, begun, going, both, or_ends, or_else, start_stat, block_step, targets_step, rest_of_stat_step, end_of_stat, values_step, step, exprs_step}
 use Rattle.lua_parser.specs.Machine.Run.{run}
 use Rattle.lua_parser.proofs.Viability.Plans.{word_is}
-use Rattle.lua_parser.proofs.Operators.{binary_at_mark}
+use Rattle.lua_parser.proofs.Marks.{binary_at_mark}
 use Rattle.lua_parser.proofs.Completeness.Plans.{on, read_on, on_going, on_both, onward_assoc, if_false, if_true, begins_as, want_on}
 use Rattle.lua_parser.proofs.Completeness.Ends.{Follow, EndsBlock, Starter, starter_no_close, starter_no_brace, starter_no_bracket, starter_starts, unary_operand, ends_no_open, ends_no_return, ends_no_stat, ends_no_exprs, ends_no_semicolon, after_use, associates, level_fits, nil_begins, false_begins, true_begins, dots_begins, function_begins, open_begins, brace_begins, number_begins, text_begins, name_begins, unary_begins}
 use Rattle.lua_parser.proofs.Completeness.Begins.{FirstExpr, used_ok, used_append}

@@ -23,7 +23,7 @@ use Rattle.lua_parser.specs.Grammar.Levels.{unary_mark, binary_mark, level, unar
 use Rattle.lua_parser.specs.Grammar.Syntax.{Form, Target, Called, Enclosed, place, Spells, SpellsPrefix, SpellsArguments, SpellsList, SpellsEntries, SpellsEntry, SpellsEntrySeparator, SpellsBody, SpellsTyped, SpellsParams, SpellsParameters, SpellsOutcome, SpellsBlock, body, block, typed}
 use Rattle.lua_parser.specs.Machine.Plan.{Item, Gives, Plan, done, want, want_name, read, Reply, stuck, ends, takes, onward}
 use Rattle.lua_parser.specs.Machine.Steps.{is_mark, is_sign, if_unary, if_binary, unary_at, binary_at, unary_plan, operand, start_expr, start_exprs, operations_step, suffix, suffix_step, called, named_entry_step, body_then, exprs_step}
-use Rattle.lua_parser.proofs.Operators.{unary_is, binary_is, right_fits}
+use Rattle.lua_parser.proofs.Marks.{unary_is, binary_is, right_fits}
 use Rattle.lua_parser.proofs.Viability.Means.{Means, Ensures, ClosedParams, closed_nothing, closed_params}
 use Rattle.lua_parser.proofs.Viability.Plans.{Begins, Meets, word_is, begins_as, begins_none, begins_some, meets_stuck, meets_ends, meets_takes, begins_if, begins_name, begins_number, begins_text, begins_going, meets_if, meets_name, meets_text, meets_begun, meets_or_ends, meets_both, meets_either}
 use Rattle.lua_parser.proofs.Viability.Types.{at, both_true, meets_type}
