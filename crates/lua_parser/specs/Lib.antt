@@ -2,3 +2,4 @@ pub mod Words
 pub mod Grammar
 pub mod Machine
 pub mod Outcomes
+pub mod Readings

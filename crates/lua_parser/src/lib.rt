@@ -2,6 +2,7 @@
 #![tactic(auto)]
 
 mod cursor;
+mod expressions;
 mod operators;
 mod reader;
 mod theorems;

@@ -60,3 +60,10 @@ pub(crate) fn place(expr: &Expr) -> Pos
         },
     }
 }
+
+/// One more part of a prefix, or the prefix as it was.
+#[derive(Drop)]
+pub(crate) enum Suffixed {
+    More(Prefix),
+    Over(Prefix),
+}
