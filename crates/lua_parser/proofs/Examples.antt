@@ -1,16 +1,15 @@
 -- Small modules that the machine reads as they are meant.
-use Rattle.std.proofs.Common.{◌≡◌, ℕ, ℤ, pos, true, false, List, [], ◌∷◌, Option, Some, None, Result, Ok, Err, refl}
+use Rattle.std.proofs.Common.{◌≡◌, ℕ, pos, [], ◌∷◌, Some, None, Ok, Err, refl}
 use Rattle.std.specs.Prelude.{codes}
 use Rattle.tl_base.specs.declared.place.Pos.{Pos}
 use Rattle.tl_base.specs.declared.place.ModuleKind.TheVariants as module_kind
-use Rattle.lua_tree.specs.declared.syntax.Block.{Block}
 use Rattle.lua_tree.specs.declared.syntax.BinaryOperator.TheVariants as b
 use Rattle.lua_tree.specs.declared.syntax.Expr.TheVariants as e
 use Rattle.lua_tree.specs.declared.syntax.Stat.TheVariants as stat
 use Rattle.lua_tree.specs.declared.annotation.TypeExpr.TheVariants as t
 use Rattle.lua_lexer.specs.declared.token.Keyword.TheVariants as w
 use Rattle.lua_lexer.specs.declared.token.Symbol.TheVariants as s
-use Rattle.lua_parser.specs.Words.{Word, Words, keyword, symbol, named, name_at, numeral, quoted, end_of_file}
+use Rattle.lua_parser.specs.Words.{Words, keyword, symbol, named, name_at, numeral, end_of_file}
 use Rattle.lua_parser.specs.Grammar.Types.{tuple, results}
 use Rattle.lua_parser.specs.Grammar.Syntax.{block, typed}
 use Rattle.lua_parser.specs.Machine.Run.{run, module_plan}

@@ -1,8 +1,7 @@
 -- What the first of the words that are left tells.
-use Rattle.std.proofs.Common.{◌≡◌, ℕ, ◌<◌, ℤ, Bool, true, false, List, [], ◌∷◌, drop, length, Option, Some, None, refl, ap, sym, arith}
-use Rattle.tl_base.specs.declared.place.Pos.{Pos}
-use Rattle.lua_parser.specs.Words.{Word, Words, WordKind, Mark, mark, marked, named, name_at, numeral, quoted}
-use Rattle.lua_parser.specs.Outcomes.{head_is, head_number, head_name, head_text, Eats}
+use Rattle.std.proofs.Common.{◌≡◌, Bool, true, false, [], ◌∷◌, drop, ap, sym}
+use Rattle.lua_parser.specs.Words.{Words, Mark}
+use Rattle.lua_parser.specs.Outcomes.{head_is, Eats}
 use Rattle.lua_parser.proofs.Viability.Plans.{word_is}
 
 pub eats : (m : Mark) (ts : Words) (b : Bool) → b ≡ head_is m ts → b ≡ true → Eats m ts b (drop 1 ts)

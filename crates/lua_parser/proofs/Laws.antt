@@ -1,15 +1,13 @@
 -- Words spell at most one tree, and where they spell none the machine stops at the first word with which no spelling goes on.
-use Rattle.std.proofs.Common.{◌≡◌, ℕ, ◌+◌, ◌<◌, ◌≤◌, Bool, true, false, List, [], ◌∷◌, ◌++◌, length, Option, Some, None, Result, Ok, Err, refl, sym, subst, ap, append_assoc, append-nil, ◌∙◌, arith}
+use Rattle.std.proofs.Common.{◌≡◌, ◌<◌, ◌≤◌, [], ◌∷◌, ◌++◌, length, Result, Ok, Err, refl, sym, subst, ap, append_assoc, append-nil, ◌∙◌, arith}
 use Rattle.std.proofs.lemmas.List.{length-append}
 use Rattle.tl_base.specs.declared.place.ModuleKind.{ModuleKind}
-use Rattle.tl_base.specs.declared.place.ModuleKind.TheVariants as module_kind
-use Rattle.tl_base.specs.declared.refusal.RefusalCode.{RefusalCode}
 use Rattle.lua_tree.specs.declared.syntax.Block.{Block}
 use Rattle.lua_parser.specs.Words.{Word, Words}
 use Rattle.lua_parser.specs.Grammar.Syntax.{SpellsChunk}
 use Rattle.lua_parser.specs.Grammar.Fault.{IsViable, IsDead, FaultAt}
 use Rattle.lua_parser.specs.Machine.Plan.{Plan, done, want, want_name, read, Reply, stuck, ends, takes}
-use Rattle.lua_parser.specs.Machine.Run.{meet, run, finished, module_plan}
+use Rattle.lua_parser.specs.Machine.Run.{meet, run, module_plan}
 use Rattle.lua_parser.proofs.Viability.Runs.{Outcome, module_outcome}
 use Rattle.lua_parser.proofs.Completeness.Plans.{after}
 use Rattle.lua_parser.proofs.Completeness.Reads.{chunk_reads}

@@ -1,13 +1,13 @@
 -- The operators and their marks.
-use Rattle.std.proofs.Common.{◌≡◌, ℕ, ◌+◌, ◌≤◌, ◌<◌, Option, Some, None, refl, ap, arith}
+use Rattle.std.proofs.Common.{◌≡◌, ◌≤◌, Some, refl, ap, arith}
 use Rattle.lua_tree.specs.declared.syntax.UnaryOperator.{UnaryOperator}
 use Rattle.lua_tree.specs.declared.syntax.UnaryOperator.TheVariants as u
 use Rattle.lua_tree.specs.declared.syntax.BinaryOperator.{BinaryOperator}
 use Rattle.lua_tree.specs.declared.syntax.BinaryOperator.TheVariants as b
 use Rattle.lua_lexer.specs.declared.token.Keyword.TheVariants as w
 use Rattle.lua_lexer.specs.declared.token.Symbol.TheVariants as s
-use Rattle.lua_parser.specs.Words.{WordKind, Mark, mark, key, sign, finish}
-use Rattle.lua_parser.specs.Grammar.Levels.{unary_mark, binary_mark, level, unary_level, left_level, right_level}
+use Rattle.lua_parser.specs.Words.{WordKind, mark, key, sign}
+use Rattle.lua_parser.specs.Grammar.Levels.{unary_mark, binary_mark, unary_level, left_level, right_level}
 use Rattle.lua_parser.specs.Machine.Steps.{unary_at, binary_at}
 
 pub unary_is : (k : WordKind) (o : UnaryOperator) → unary_at k ≡ Some o → k ≡ mark (unary_mark o)

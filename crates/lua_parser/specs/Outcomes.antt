@@ -1,17 +1,13 @@
 -- What the calls that read a part say of the words before and behind it.
-use Rattle.std.specs.Prelude.{◌≡◌, ℕ, ◌+◌, ◌≤◌, ℤ, Option, Some, None, Bool, true, false, List, [], ◌∷◌, length, Result, Ok, Err}
+use Rattle.std.specs.Prelude.{◌≡◌, ℕ, ℤ, Option, Some, None, Bool, true, false, List, [], ◌∷◌, Result, Ok, Err}
 use Rattle.tl_base.specs.declared.place.Pos.{Pos}
-use Rattle.tl_base.specs.declared.place.ModuleKind.{ModuleKind}
 use Rattle.lua_tree.specs.declared.annotation.Name.{Name}
-use Rattle.lua_tree.specs.declared.syntax.Block.{Block}
 use Rattle.lua_tree.specs.declared.syntax.UnaryOperator.{UnaryOperator}
 use Rattle.lua_tree.specs.declared.syntax.BinaryOperator.{BinaryOperator}
 use Rattle.lua_parser.specs.declared.cursor.Stop.{Stop}
 use Rattle.lua_parser.specs.declared.cursor.Stop.TheVariants as stop
-use Rattle.lua_parser.specs.Words.{Word, Words, WordKind, Mark, marked, named, numeral, quoted}
-use Rattle.lua_parser.specs.Machine.Plan.{Plan, onward}
+use Rattle.lua_parser.specs.Words.{Words, Mark, marked, named, quoted}
 use Rattle.lua_parser.specs.Machine.Steps.{is_mark, if_name, if_number, if_text, unary_at, binary_at}
-use Rattle.lua_parser.specs.Machine.Run.{run}
 
 -- whether the first word is this mark
 abbrev pub head_is : Mark → Words → Bool

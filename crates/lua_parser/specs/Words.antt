@@ -1,5 +1,5 @@
 -- What the grammar sees of a token: what it is, with a name's text, and its place.
-use Rattle.std.specs.Prelude.{ℕ, ℤ, List, [], ◌∷◌, ◌-◌, take, drop, map}
+use Rattle.std.specs.Prelude.{ℕ, ℤ, List, ◌-◌, take, drop, map}
 use Rattle.tl_base.specs.declared.place.Pos.{Pos}
 use Rattle.lua_tree.specs.declared.annotation.Name.{Name}
 use Rattle.lua_lexer.specs.declared.token.Keyword.{Keyword}

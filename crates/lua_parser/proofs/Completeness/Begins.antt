@@ -1,20 +1,16 @@
 -- The first words of expressions, statements and blocks.
-use Rattle.std.proofs.Common.{◌≡◌, ℕ, Bool, true, false, List, [], ◌∷◌, ◌++◌, Option, Some, None, refl, sym, ap, ◌∙◌, subst, append_assoc}
-use Rattle.tl_base.specs.declared.place.Pos.{Pos}
+use Rattle.std.proofs.Common.{◌≡◌, ℕ, Bool, true, List, [], ◌∷◌, ◌++◌, Option, refl, ap}
 use Rattle.tl_base.specs.declared.place.ModuleKind.{ModuleKind}
-use Rattle.lua_tree.specs.declared.annotation.Name.{Name}
 use Rattle.lua_tree.specs.declared.syntax.Expr.{Expr}
 use Rattle.lua_tree.specs.declared.syntax.Stat.{Stat}
 use Rattle.lua_tree.specs.declared.syntax.Clause.{Clause}
 use Rattle.lua_tree.specs.declared.syntax.Block.{Block}
 use Rattle.lua_tree.specs.declared.syntax.Return.{Return}
-use Rattle.lua_lexer.specs.declared.token.Keyword.TheVariants as w
-use Rattle.lua_lexer.specs.declared.token.Symbol.TheVariants as s
-use Rattle.lua_parser.specs.Words.{Word, Words, WordKind, Mark, mark, key, sign, finish, keyword, symbol, marked, named, name_at}
-use Rattle.lua_parser.specs.Grammar.Levels.{unary_mark, binary_mark}
-use Rattle.lua_parser.specs.Grammar.Types.{opens, begins_open}
-use Rattle.lua_parser.specs.Grammar.Syntax.{Form, Spells, SpellsPrefix, SpellsArguments, SpellsList, SpellsBlock, SpellsStat, SpellsTargets, SpellsElse, SpellsStep, SpellsInit}
-use Rattle.lua_parser.proofs.Completeness.Ends.{Follow, EndsBlock, Starter, ends_follows, after_use, operator_after_use, semicolon_follows, break_follows, do_follows, while_follows, repeat_follows, if_follows, for_follows, function_follows, local_follows, open_follows, return_follows, end_follows, else_follows, elseif_follows, until_follows, finish_follows, name_follows, end_ends, else_ends, elseif_ends, until_ends, finish_ends, nil_begins, false_begins, true_begins, dots_begins, function_begins, open_begins, brace_begins, number_begins, text_begins, name_begins, unary_begins}
+use Rattle.lua_parser.specs.Words.{Word, Words, WordKind, Mark, mark}
+use Rattle.lua_parser.specs.Grammar.Levels.{unary_mark}
+use Rattle.lua_parser.specs.Grammar.Types.{begins_open}
+use Rattle.lua_parser.specs.Grammar.Syntax.{Form, Spells, SpellsPrefix, SpellsArguments, SpellsList, SpellsBlock, SpellsStat, SpellsTargets, SpellsElse}
+use Rattle.lua_parser.proofs.Completeness.Ends.{Follow, EndsBlock, Starter, ends_follows, after_use, operator_after_use, semicolon_follows, break_follows, do_follows, while_follows, repeat_follows, if_follows, for_follows, function_follows, local_follows, open_follows, return_follows, name_follows, end_ends, else_ends, elseif_ends, nil_begins, false_begins, true_begins, dots_begins, function_begins, open_begins, brace_begins, number_begins, text_begins, name_begins, unary_begins}
 
 -- what may follow a name that begins an entry
 abbrev pub used_ok : Words → Bool

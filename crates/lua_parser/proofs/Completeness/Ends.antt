@@ -1,7 +1,6 @@
 -- The words that begin and that may follow expressions and statements.
-use Rattle.std.proofs.Common.{◌≡◌, ℕ, ℤ, ◌+◌, ◌≤◌, ◌<◌, ◌⊎◌, inl, inr, Bool, true, false, List, [], ◌∷◌, ◌++◌, Option, Some, None, refl, sym, ap, ◌∙◌, arith}
+use Rattle.std.proofs.Common.{◌≡◌, ℕ, ℤ, ◌+◌, ◌≤◌, ◌<◌, ◌⊎◌, inl, inr, Bool, true, false, List, Some, None, refl, arith}
 use Rattle.tl_base.specs.declared.place.Pos.{Pos}
-use Rattle.lua_tree.specs.declared.annotation.Name.{Name}
 use Rattle.lua_tree.specs.declared.syntax.UnaryOperator.{UnaryOperator}
 use Rattle.lua_tree.specs.declared.syntax.UnaryOperator.TheVariants as u
 use Rattle.lua_tree.specs.declared.syntax.BinaryOperator.{BinaryOperator}
@@ -9,7 +8,7 @@ use Rattle.lua_tree.specs.declared.syntax.BinaryOperator.TheVariants as b
 use Rattle.lua_tree.specs.declared.syntax.Expr.{Expr}
 use Rattle.lua_lexer.specs.declared.token.Keyword.TheVariants as w
 use Rattle.lua_lexer.specs.declared.token.Symbol.TheVariants as s
-use Rattle.lua_parser.specs.Words.{Word, Words, WordKind, Mark, mark, key, sign, finish, named, name_at}
+use Rattle.lua_parser.specs.Words.{WordKind, mark, key, sign, finish}
 use Rattle.lua_parser.specs.Grammar.Levels.{unary_mark, binary_mark, level, unary_level, left_level, right_level}
 use Rattle.lua_parser.specs.Grammar.Types.{opens}
 use Rattle.lua_parser.specs.Machine.Plan.{Plan}

@@ -1,11 +1,10 @@
 -- The first words of types.
-use Rattle.std.proofs.Common.{◌≡◌, ℕ, ℤ, Bool, true, false, List, [], ◌∷◌, ◌++◌, Option, refl, sym, ap, ◌∙◌}
+use Rattle.std.proofs.Common.{◌≡◌, ℕ, ℤ, Bool, true, false, List, [], ◌∷◌, ◌++◌, Option, refl, ap}
 use Rattle.tl_base.specs.declared.place.Pos.{Pos}
-use Rattle.lua_tree.specs.declared.annotation.Name.{Name}
 use Rattle.lua_tree.specs.declared.annotation.TypeExpr.{TypeExpr}
 use Rattle.lua_lexer.specs.declared.token.Keyword.TheVariants as w
 use Rattle.lua_lexer.specs.declared.token.Symbol.TheVariants as s
-use Rattle.lua_parser.specs.Words.{Word, Words, WordKind, Mark, mark, key, sign, named, name_at}
+use Rattle.lua_parser.specs.Words.{Word, Words, WordKind, mark, key, sign}
 use Rattle.lua_parser.specs.Grammar.Types.{Ending, SpellsDotted, SpellsType, SpellsMembers, SpellsMember, SpellsSimple, SpellsItems}
 use Rattle.lua_parser.specs.Machine.Steps.{is_sign}
 

@@ -1,13 +1,11 @@
 -- Laws of runs: where one plan goes on as another.
-use Rattle.std.proofs.Common.{◌≡◌, ℕ, ◌+◌, Bool, true, false, List, [], ◌∷◌, ◌++◌, Option, Some, None, Result, Ok, Err, refl, sym, ap, ◌∙◌}
+use Rattle.std.proofs.Common.{◌≡◌, Bool, true, false, ◌∷◌, Option, Some, None, Result, Err, refl, sym, ap, ◌∙◌}
 use Rattle.std.specs.Prelude.{if◌then◌else◌}
-use Rattle.tl_base.specs.declared.place.Pos.{Pos}
 use Rattle.tl_base.specs.declared.place.ModuleKind.{ModuleKind}
-use Rattle.lua_tree.specs.declared.annotation.Name.{Name}
-use Rattle.lua_parser.specs.Words.{Word, Words, WordKind, Mark, mark, marked, named, name_at}
+use Rattle.lua_parser.specs.Words.{Word, Words, Mark}
 use Rattle.lua_parser.specs.Machine.Plan.{Item, Gives, Plan, done, want, want_name, read, Reply, stuck, ends, takes, onward}
-use Rattle.lua_parser.specs.Machine.Steps.{is_mark, if_name, begun, going, both, or_ends, or_else, step}
-use Rattle.lua_parser.specs.Machine.Run.{meet, run, finished}
+use Rattle.lua_parser.specs.Machine.Steps.{is_mark, begun, going, both, step}
+use Rattle.lua_parser.specs.Machine.Run.{meet, run}
 
 pub onward_assoc : {A B C : Type 0} (p : Plan A) (f : A → Plan B) (g : B → Plan C) → onward (onward p f) g ≡ onward p (λ v. onward (f v) g)
 onward_assoc (done a) f g = refl

@@ -1,12 +1,11 @@
 -- The machine reads each spelling of an expression, a statement and a block.
-use Rattle.std.proofs.Common.{◌≡◌, ℕ, ℤ, ◌+◌, ◌≤◌, ◌<◌, ◌⊎◌, inl, inr, Bool, true, false, List, [], ◌∷◌, ◌++◌, Option, Some, None, Result, Ok, Err, refl, sym, subst, ap, append_assoc, ◌∙◌, arith}
+use Rattle.std.proofs.Common.{◌≡◌, ℕ, ◌+◌, ◌≤◌, ◌<◌, ◌⊎◌, inl, inr, Bool, true, false, List, [], ◌∷◌, ◌++◌, Option, Some, None, Ok, refl, sym, subst, ap, append_assoc, ◌∙◌, arith}
 use Rattle.std.specs.Prelude.{codes, if◌then◌else◌, ◌&&◌}
 use Rattle.tl_base.specs.declared.place.Pos.{Pos}
 use Rattle.tl_base.specs.declared.place.ModuleKind.{ModuleKind}
 use Rattle.lua_tree.specs.declared.annotation.Name.{Name}
 use Rattle.lua_tree.specs.declared.annotation.Typed.{Typed}
 use Rattle.lua_tree.specs.declared.annotation.TypeExpr.{TypeExpr}
-use Rattle.lua_tree.specs.declared.annotation.TypeField.{TypeField}
 use Rattle.lua_tree.specs.declared.annotation.TypeResults.{TypeResults}
 use Rattle.lua_tree.specs.declared.syntax.BinaryOperator.{BinaryOperator}
 use Rattle.lua_tree.specs.declared.syntax.Expr.{Expr}
@@ -22,19 +21,18 @@ use Rattle.lua_tree.specs.declared.syntax.Rest.{Rest}
 use Rattle.lua_tree.specs.declared.syntax.Return.{Return}
 use Rattle.lua_lexer.specs.declared.token.Keyword.TheVariants as w
 use Rattle.lua_lexer.specs.declared.token.Symbol.TheVariants as s
-use Rattle.lua_parser.specs.Words.{Word, Words, WordKind, Mark, mark, key, sign, finish, keyword, symbol, marked, named, name_at, quoted, end_of_file}
-use Rattle.lua_parser.specs.Grammar.Levels.{unary_mark, binary_mark, level, unary_level, left_level, right_level}
+use Rattle.lua_parser.specs.Words.{Word, Words, WordKind, mark, key, sign, finish, keyword, symbol, marked, named, name_at, quoted, end_of_file}
+use Rattle.lua_parser.specs.Grammar.Levels.{binary_mark, level, unary_level, left_level, right_level}
 use Rattle.lua_parser.specs.Grammar.Types.{opens, begins_open}
 use Rattle.lua_parser.specs.Grammar.Syntax.{Form, Target, Called, Enclosed, place, block, clause, body, returns, typed, rest_at, SpellsAnnotation, SpellsTyped, SpellsTypeds, SpellsParams, SpellsParameters, SpellsOutcome, SpellsNames, SpellsPath, SpellsSemicolon, SpellsEntrySeparator, Spells, SpellsPrefix, SpellsArguments, SpellsList, SpellsEntries, SpellsEntry, SpellsBody, SpellsBlock, SpellsValues, SpellsStat, SpellsTargets, SpellsClauses, SpellsElse, SpellsStep, SpellsInit, SpellsChunk}
-use Rattle.lua_parser.specs.Machine.Plan.{Item, Gives, Plan, done, want, want_name, read, Reply, stuck, ends, takes, onward}
-use Rattle.lua_parser.specs.Machine.Steps.{is_mark, is_sign, is_key, if_name, binary_at, suffix, start_exprs, body_then, block_then, assigned}
+use Rattle.lua_parser.specs.Machine.Plan.{Item, Plan, done, want, want_name, read}
+use Rattle.lua_parser.specs.Machine.Steps.{is_sign, if_name, binary_at, suffix, start_exprs, assigned}
 use Rattle.lua_parser.specs.Machine.Run.{run, module_plan}
 use Rattle.lua_parser.proofs.Marks.{right_fits, left_fits, binary_at_mark}
-use Rattle.lua_parser.proofs.Viability.Plans.{opens_is}
 use Rattle.lua_parser.proofs.Completeness.Types.{TypeEnd, type_reads, body_results_reads, interface_reads}
-use Rattle.lua_parser.proofs.Completeness.Ends.{Follow, EndsBlock, ends_follows, follow_no_op, follow_no_comma, follow_no_colon, follow_no_assign, follow_no_type, follow_no_suffix, ends_no_open, ends_no_exprs, ends_no_semicolon, after_use, operator_after_use, operator_no_suffix, associates, level_fits, right_above, left_above, end_ends, else_ends, elseif_ends, until_ends, finish_ends}
-use Rattle.lua_parser.proofs.Completeness.Begins.{FirstExpr, open_append, prefix_first, expr_first, list_first, FirstStat, block_first, else_first}
-use Rattle.lua_parser.proofs.Completeness.Steps.{nat_le_true, nat_le_false, and_false, ExprEnd, Behind, behind_end, no_name, operations_take, operations_end, no_operations, suffixes_end, unary_take, exprs_unfold, more_exprs_end, rest_unfold, values_unfold, no_values, no_semicolon, entries_unfold, next_of, block_at, block_end, suffix_loops, stat_loops, targets_loops, call_ends, behind_plain, interface_at, alias_at, annotation_at, no_annotation_at, outcome_at, no_outcome_at, no_more_typed, no_init_at, no_more_names, Loop, Head}
+use Rattle.lua_parser.proofs.Completeness.Ends.{Follow, EndsBlock, ends_follows, follow_no_op, follow_no_comma, follow_no_colon, follow_no_assign, follow_no_type, follow_no_suffix, ends_no_open, ends_no_exprs, ends_no_semicolon, after_use, operator_no_suffix, associates, level_fits, right_above, left_above, end_ends, until_ends, finish_ends}
+use Rattle.lua_parser.proofs.Completeness.Begins.{open_append, expr_first, list_first, FirstStat, block_first, else_first}
+use Rattle.lua_parser.proofs.Completeness.Steps.{and_false, ExprEnd, Behind, behind_end, no_name, operations_take, operations_end, no_operations, suffixes_end, unary_take, exprs_unfold, more_exprs_end, rest_unfold, values_unfold, no_values, no_semicolon, entries_unfold, next_of, block_at, block_end, suffix_loops, stat_loops, targets_loops, call_ends, behind_plain, interface_at, alias_at, annotation_at, no_annotation_at, outcome_at, no_outcome_at, no_more_typed, no_init_at, no_more_names, Loop, Head}
 
 module _ (kind : ModuleKind) where
   annotation_reads : {a : Option TypeExpr} {ts : Words} → SpellsAnnotation kind a ts → {A : Type 0} (k : Option TypeExpr → Plan A) (y : Word) (us : Words) → TypeEnd y.kind → is_sign s.Colon y.kind ≡ false → run kind (read Item.annotation k) (ts ++ y ∷ us) ≡ run kind (k a) (y ∷ us)

@@ -1,5 +1,5 @@
 -- Single steps of the machine in expressions and statements, as equations between runs.
-use Rattle.std.proofs.Common.{◌≡◌, ℕ, ◌+◌, ◌≤◌, ◌<◌, ◌⊎◌, inl, inr, Bool, true, false, List, [], ◌∷◌, ◌++◌, Option, Some, None, refl, sym, subst, ap, append_assoc, ◌∙◌, arith}
+use Rattle.std.proofs.Common.{◌≡◌, ℕ, ◌+◌, ◌≤◌, ◌<◌, Bool, true, false, List, [], ◌∷◌, ◌++◌, Option, Some, None, refl, sym, ap, ◌∙◌, arith}
 use Rattle.std.specs.Prelude.{if◌then◌else◌, ◌&&◌, nat_le, codes}
 use Rattle.std.proofs.lemmas.Bool.Decides.{nat_tests}
 use Rattle.tl_base.specs.declared.place.Pos.{Pos}
@@ -21,17 +21,17 @@ use Rattle.lua_tree.specs.declared.syntax.Stat.TheVariants as stat
 use Rattle.lua_tree.specs.declared.syntax.Return.{Return}
 use Rattle.lua_lexer.specs.declared.token.Keyword.TheVariants as w
 use Rattle.lua_lexer.specs.declared.token.Symbol.TheVariants as s
-use Rattle.lua_parser.specs.Words.{Word, Words, WordKind, Mark, mark, key, sign, finish, keyword, symbol, marked, named, name_at}
+use Rattle.lua_parser.specs.Words.{Word, Words, WordKind, mark, sign, symbol, marked, named, name_at}
 use Rattle.lua_parser.specs.Grammar.Levels.{unary_mark, binary_mark, level, unary_level, left_level, right_level}
-use Rattle.lua_parser.specs.Grammar.Types.{opens, begins_open}
-use Rattle.lua_parser.specs.Grammar.Syntax.{Form, Target, Called, Enclosed, place, returns}
-use Rattle.lua_parser.specs.Machine.Plan.{Item, Gives, Plan, done, want, want_name, read, Reply, stuck, ends, takes, onward}
-use Rattle.lua_parser.specs.Machine.Steps.{is_mark, is_sign, is_key, is_typed, if_name, if_unary, if_binary, unary_at, binary_at, unary_plan, operand, start_expr, start_exprs, operations_step, suffix, suffix_step, begun, going, both, or_ends, or_else, start_stat, block_step, targets_step, rest_of_stat_step, end_of_stat, values_step, step, exprs_step}
+use Rattle.lua_parser.specs.Grammar.Types.{opens}
+use Rattle.lua_parser.specs.Grammar.Syntax.{Form, Target, Called, Enclosed, place}
+use Rattle.lua_parser.specs.Machine.Plan.{Item, Plan, done, want, read, stuck, ends, takes, onward}
+use Rattle.lua_parser.specs.Machine.Steps.{is_sign, is_key, is_typed, if_name, if_binary, binary_at, start_expr, start_exprs, operations_step, suffix, suffix_step, begun, going, or_ends, or_else, start_stat, rest_of_stat_step, end_of_stat, values_step, exprs_step}
 use Rattle.lua_parser.specs.Machine.Run.{run}
 use Rattle.lua_parser.proofs.Viability.Plans.{word_is}
 use Rattle.lua_parser.proofs.Marks.{binary_at_mark}
-use Rattle.lua_parser.proofs.Completeness.Plans.{on, read_on, on_going, on_both, onward_assoc, if_false, if_true, begins_as, want_on}
-use Rattle.lua_parser.proofs.Completeness.Ends.{Follow, EndsBlock, Starter, starter_no_close, starter_no_brace, starter_no_bracket, starter_starts, unary_operand, ends_no_open, ends_no_return, ends_no_stat, ends_no_exprs, ends_no_semicolon, after_use, associates, level_fits, nil_begins, false_begins, true_begins, dots_begins, function_begins, open_begins, brace_begins, number_begins, text_begins, name_begins, unary_begins}
+use Rattle.lua_parser.proofs.Completeness.Plans.{on, read_on, on_both, onward_assoc, if_false, if_true, begins_as}
+use Rattle.lua_parser.proofs.Completeness.Ends.{EndsBlock, Starter, starter_no_close, starter_starts, unary_operand, ends_no_open, ends_no_return, ends_no_stat, after_use, nil_begins, false_begins, true_begins, dots_begins, function_begins, open_begins, brace_begins, number_begins, text_begins, name_begins, unary_begins}
 use Rattle.lua_parser.proofs.Completeness.Begins.{FirstExpr, used_ok, used_append}
 
 pub nat_le_true : (a b : ℕ) → a ≤ b → nat_le a b ≡ true

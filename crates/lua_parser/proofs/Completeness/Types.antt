@@ -1,6 +1,6 @@
 -- The machine reads each spelling of a type.
-use Rattle.std.proofs.Common.{◌≡◌, ℕ, ℤ, Bool, true, false, List, [], ◌∷◌, ◌++◌, Option, Some, None, refl, sym, subst, ap, append_assoc, append-nil, ◌∙◌}
-use Rattle.std.specs.Prelude.{codes, if◌then◌else◌}
+use Rattle.std.proofs.Common.{◌≡◌, ℕ, Bool, true, false, List, [], ◌∷◌, ◌++◌, Option, None, refl, sym, subst, ap, append_assoc, ◌∙◌}
+use Rattle.std.specs.Prelude.{codes}
 use Rattle.tl_base.specs.declared.place.Pos.{Pos}
 use Rattle.tl_base.specs.declared.place.ModuleKind.{ModuleKind}
 use Rattle.lua_tree.specs.declared.annotation.Name.{Name}
@@ -11,14 +11,13 @@ use Rattle.lua_tree.specs.declared.annotation.TypeTuple.{TypeTuple}
 use Rattle.lua_tree.specs.declared.annotation.TypeResults.{TypeResults}
 use Rattle.lua_lexer.specs.declared.token.Keyword.TheVariants as w
 use Rattle.lua_lexer.specs.declared.token.Symbol.TheVariants as s
-use Rattle.lua_parser.specs.Words.{Word, Words, WordKind, Mark, mark, key, sign, finish, keyword, symbol, marked, named, name_at}
-use Rattle.lua_parser.specs.Grammar.Types as type
-use Rattle.lua_parser.specs.Grammar.Types.{Ending, InItself, InTuple, InType, MayPrecede, opens, begins_open, tuple, field, results, SpellsDotted, SpellsType, SpellsMembers, SpellsMember, SpellsSimple, SpellsFields, SpellsField, SpellsTuple, SpellsItems, SpellsTuples, SpellsResults, SpellsSeparator, SpellsInterface}
-use Rattle.lua_parser.specs.Machine.Plan.{After, ended, joined, Item, Gives, Plan, done, want, want_name, read, Reply, stuck, ends, takes, onward}
-use Rattle.lua_parser.specs.Machine.Steps.{is_mark, is_sign, start_plain, start_member, start_type, union_of, member_step, name_step, mark_step, paren_step, field_step, tuple_then, single_result, begun, going, both, if_name, types_step}
+use Rattle.lua_parser.specs.Words.{Word, Words, WordKind, mark, sign, keyword, symbol, named, name_at}
+use Rattle.lua_parser.specs.Grammar.Types.{Ending, InItself, InTuple, InType, MayPrecede, begins_open, tuple, field, results, SpellsDotted, SpellsType, SpellsMembers, SpellsMember, SpellsSimple, SpellsFields, SpellsField, SpellsTuple, SpellsItems, SpellsTuples, SpellsResults, SpellsSeparator, SpellsInterface}
+use Rattle.lua_parser.specs.Machine.Plan.{After, ended, joined, Item, Plan, done, want, want_name, read, ends}
+use Rattle.lua_parser.specs.Machine.Steps.{is_sign, start_plain, start_member, start_type, union_of, member_step, name_step, mark_step, tuple_then, single_result, begun, going, both, if_name, types_step}
 use Rattle.lua_parser.specs.Machine.Run.{run}
 use Rattle.lua_parser.proofs.Viability.Plans.{opens_is, word_is}
-use Rattle.lua_parser.proofs.Completeness.Plans.{if_false, if_true, begins_as, want_on, on, read_on, on_going, on_both, onward_assoc}
+use Rattle.lua_parser.proofs.Completeness.Plans.{if_false, begins_as, want_on, on, read_on, on_going, on_both}
 use Rattle.lua_parser.proofs.Completeness.Firsts.{TypeStarter, nil_starts, true_starts, false_starts, minus_starts, brace_starts, paren_starts, number_starts, text_starts, name_starts, second_append, starter_not_close, after_name, second_ok, First, type_first, items_first, members_first}
 
 -- no type goes on with a word of this kind

@@ -1,22 +1,19 @@
 -- Each part of a module can be ended: some words spell it.
-use Rattle.std.proofs.Common.{◌≡◌, ℕ, ℤ, pos, ◌+◌, Bool, true, false, List, [], ◌∷◌, ◌++◌, Option, Some, None, refl, sym, subst, append_assoc, append-nil}
+use Rattle.std.proofs.Common.{ℕ, pos, ◌+◌, true, false, [], ◌∷◌, ◌++◌, Some, None, refl, sym, subst, append_assoc, append-nil}
 use Rattle.tl_base.specs.declared.place.Pos.{Pos}
 use Rattle.tl_base.specs.declared.place.ModuleKind.{ModuleKind}
 use Rattle.lua_tree.specs.declared.annotation.Name.{Name}
-use Rattle.lua_tree.specs.declared.annotation.TypeExpr.{TypeExpr}
 use Rattle.lua_tree.specs.declared.annotation.TypeExpr.TheVariants as t
-use Rattle.lua_tree.specs.declared.annotation.TypeResults.{TypeResults}
-use Rattle.lua_tree.specs.declared.syntax.Body.{Body}
 use Rattle.lua_tree.specs.declared.syntax.Expr.{Expr}
 use Rattle.lua_tree.specs.declared.syntax.Expr.TheVariants as e
 use Rattle.lua_tree.specs.declared.syntax.Entry.TheVariants as entry
 use Rattle.lua_tree.specs.declared.syntax.Stat.TheVariants as stat
 use Rattle.lua_lexer.specs.declared.token.Keyword.TheVariants as w
 use Rattle.lua_lexer.specs.declared.token.Symbol.TheVariants as s
-use Rattle.lua_parser.specs.Words.{Word, Words, keyword, symbol, named, name_at, numeral}
+use Rattle.lua_parser.specs.Words.{Words, keyword, symbol, named, name_at, numeral}
 use Rattle.lua_parser.specs.Grammar.Types.{InItself, InTuple, InType, field, tuple, SpellsDotted, SpellsType, SpellsMembers, SpellsMember, SpellsSimple, SpellsFields, SpellsField, SpellsTuple, SpellsItems, SpellsTuples, SpellsResults, SpellsSeparator, SpellsInterface}
-use Rattle.lua_parser.specs.Grammar.Syntax.{Form, place, block, body, typed, rest_at, SpellsAnnotation, SpellsTyped, SpellsTypeds, SpellsParams, SpellsParameters, SpellsOutcome, SpellsNames, SpellsPath, SpellsSemicolon, Spells, SpellsPrefix, SpellsArguments, SpellsList, SpellsEntries, SpellsEntry, SpellsBody, SpellsBlock, SpellsValues, SpellsStat, SpellsTargets, SpellsElse, SpellsStep, SpellsInit}
-use Rattle.lua_parser.specs.Machine.Plan.{After, ended, joined, Item, Gives}
+use Rattle.lua_parser.specs.Grammar.Syntax.{Form, place, block, body, typed, rest_at, SpellsAnnotation, SpellsTyped, SpellsTypeds, SpellsParams, SpellsParameters, SpellsOutcome, SpellsNames, SpellsSemicolon, Spells, SpellsPrefix, SpellsArguments, SpellsList, SpellsEntries, SpellsEntry, SpellsBody, SpellsBlock, SpellsValues, SpellsStat, SpellsTargets, SpellsElse, SpellsStep, SpellsInit}
+use Rattle.lua_parser.specs.Machine.Plan.{ended, joined, Item, Gives}
 use Rattle.lua_parser.specs.Machine.Steps.{single_result}
 use Rattle.lua_parser.proofs.Viability.Means.{Means, ended_interface, closed_params, Assigns, assigns}
 use Rattle.lua_parser.proofs.Viability.Exprs.{weaken}

@@ -1,6 +1,6 @@
 -- Each step in an expression keeps what the part stands for.
-use Rattle.std.proofs.Common.{◌≡◌, ℕ, ℤ, ◌+◌, ◌≤◌, Bool, true, false, List, [], ◌∷◌, ◌++◌, Option, Some, None, refl, sym, subst, ap, append_assoc, append-nil, ◌∙◌, arith}
-use Rattle.std.specs.Prelude.{if◌then◌else◌, ◌&&◌, nat_le}
+use Rattle.std.proofs.Common.{◌≡◌, ℕ, ◌+◌, ◌≤◌, Bool, true, false, List, [], ◌∷◌, ◌++◌, Option, Some, None, refl, sym, subst, append_assoc, append-nil, arith}
+use Rattle.std.specs.Prelude.{if◌then◌else◌, nat_le}
 use Rattle.std.proofs.lemmas.Bool.Decides.{nat_tests}
 use Rattle.tl_base.specs.declared.place.Pos.{Pos}
 use Rattle.tl_base.specs.declared.place.ModuleKind.{ModuleKind}
@@ -18,14 +18,14 @@ use Rattle.lua_tree.specs.declared.syntax.Stat.{Stat}
 use Rattle.lua_tree.specs.declared.syntax.Return.{Return}
 use Rattle.lua_lexer.specs.declared.token.Keyword.TheVariants as w
 use Rattle.lua_lexer.specs.declared.token.Symbol.TheVariants as s
-use Rattle.lua_parser.specs.Words.{Word, Words, WordKind, Mark, mark, key, sign, finish, keyword, symbol, marked, named, name_at, quoted}
-use Rattle.lua_parser.specs.Grammar.Levels.{unary_mark, binary_mark, level, unary_level, left_level, right_level}
-use Rattle.lua_parser.specs.Grammar.Syntax.{Form, Target, Called, Enclosed, place, Spells, SpellsPrefix, SpellsArguments, SpellsList, SpellsEntries, SpellsEntry, SpellsEntrySeparator, SpellsBody, SpellsTyped, SpellsParams, SpellsParameters, SpellsOutcome, SpellsBlock, body, block, typed}
-use Rattle.lua_parser.specs.Machine.Plan.{Item, Gives, Plan, done, want, want_name, read, Reply, stuck, ends, takes, onward}
-use Rattle.lua_parser.specs.Machine.Steps.{is_mark, is_sign, if_unary, if_binary, unary_at, binary_at, unary_plan, operand, start_expr, start_exprs, operations_step, suffix, suffix_step, called, named_entry_step, body_then, exprs_step}
+use Rattle.lua_parser.specs.Words.{Words, WordKind, key, sign, keyword, symbol, marked, named, name_at}
+use Rattle.lua_parser.specs.Grammar.Levels.{binary_mark, level, unary_level, left_level, right_level}
+use Rattle.lua_parser.specs.Grammar.Syntax.{Form, Target, place, Spells, SpellsPrefix, SpellsArguments, SpellsList, SpellsEntries, SpellsEntry, SpellsEntrySeparator, SpellsBody, SpellsTyped, SpellsParams, SpellsParameters, SpellsOutcome, SpellsBlock, body, block, typed}
+use Rattle.lua_parser.specs.Machine.Plan.{Item, done, read, stuck, ends, takes}
+use Rattle.lua_parser.specs.Machine.Steps.{is_sign, if_unary, if_binary, unary_at, binary_at, unary_plan, operand, start_expr, start_exprs, operations_step, suffix, suffix_step, named_entry_step, exprs_step}
 use Rattle.lua_parser.proofs.Marks.{unary_is, binary_is, right_fits}
 use Rattle.lua_parser.proofs.Viability.Means.{Means, Ensures, ClosedParams, closed_nothing, closed_params}
-use Rattle.lua_parser.proofs.Viability.Plans.{Begins, Meets, word_is, begins_as, begins_none, begins_some, meets_stuck, meets_ends, meets_takes, begins_if, begins_name, begins_number, begins_text, begins_going, meets_if, meets_name, meets_text, meets_begun, meets_or_ends, meets_both, meets_either}
+use Rattle.lua_parser.proofs.Viability.Plans.{Begins, Meets, word_is, begins_none, begins_some, meets_stuck, meets_ends, meets_takes, begins_if, begins_name, begins_number, begins_text, begins_going, meets_if, meets_name, meets_text, meets_begun, meets_or_ends, meets_both, meets_either}
 use Rattle.lua_parser.proofs.Viability.Types.{at, both_true, meets_type}
 
 abbrev pub one_fits : 1 ≤ unary_level

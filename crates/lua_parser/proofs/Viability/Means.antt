@@ -1,5 +1,5 @@
 -- What each part of a module stands for in the grammar, and what a plan ensures of the words that it takes.
-use Rattle.std.proofs.Common.{◌≡◌, ℕ, ◌+◌, ◌≤◌, Bool, true, false, List, [], ◌∷◌, ◌++◌, Option, Some, None}
+use Rattle.std.proofs.Common.{◌≡◌, ℕ, ◌≤◌, Bool, true, false, List, [], ◌∷◌, ◌++◌, Option, None}
 use Rattle.tl_base.specs.declared.place.Pos.{Pos}
 use Rattle.tl_base.specs.declared.place.ModuleKind.{ModuleKind}
 use Rattle.lua_tree.specs.declared.annotation.Name.{Name}
@@ -13,11 +13,11 @@ use Rattle.lua_tree.specs.declared.syntax.Expr.{Expr}
 use Rattle.lua_tree.specs.declared.syntax.Entry.{Entry}
 use Rattle.lua_lexer.specs.declared.token.Keyword.TheVariants as w
 use Rattle.lua_lexer.specs.declared.token.Symbol.TheVariants as s
-use Rattle.lua_parser.specs.Words.{Word, Words, marked, keyword, symbol, named, name_at}
+use Rattle.lua_parser.specs.Words.{Words, marked, keyword, symbol, named, name_at}
 use Rattle.lua_parser.specs.Grammar.Levels.{unary_level}
-use Rattle.lua_parser.specs.Grammar.Types.{Ending, InItself, InTuple, InType, tuple, begins_open, SpellsDotted, SpellsType, SpellsMembers, SpellsMember, SpellsSimple, SpellsFields, SpellsField, SpellsTuple, SpellsItems, SpellsTuples, SpellsResults, SpellsSeparator, SpellsInterface}
-use Rattle.lua_parser.specs.Grammar.Syntax.{Form, Target, SpellsAnnotation, SpellsTyped, SpellsTypeds, SpellsParams, SpellsParameters, SpellsOutcome, SpellsNames, SpellsPath, SpellsSemicolon, Spells, SpellsPrefix, SpellsArguments, SpellsList, SpellsEntries, SpellsEntry, SpellsBody, SpellsBlock, SpellsValues, SpellsStat, SpellsTargets, SpellsElse, SpellsStep, SpellsInit}
-use Rattle.lua_parser.specs.Machine.Plan.{After, ended, joined, Item, Gives, Plan, done, want, want_name, read, Reply, stuck, ends, takes}
+use Rattle.lua_parser.specs.Grammar.Types.{Ending, InItself, InTuple, tuple, begins_open, SpellsDotted, SpellsType, SpellsMembers, SpellsMember, SpellsSimple, SpellsFields, SpellsField, SpellsTuple, SpellsItems, SpellsTuples, SpellsResults, SpellsSeparator, SpellsInterface}
+use Rattle.lua_parser.specs.Grammar.Syntax.{SpellsAnnotation, SpellsTyped, SpellsTypeds, SpellsParams, SpellsOutcome, SpellsNames, SpellsPath, SpellsSemicolon, Spells, SpellsPrefix, SpellsArguments, SpellsList, SpellsEntries, SpellsEntry, SpellsBody, SpellsBlock, SpellsValues, SpellsStat, SpellsTargets, SpellsElse, SpellsStep, SpellsInit}
+use Rattle.lua_parser.specs.Machine.Plan.{After, ended, joined, Item, Gives, Plan, done, want, want_name, read}
 
 abbrev pub AsMember : After → TypeExpr → Words → Type 0
 AsMember (ended r) x ts = SpellsMember r x ts

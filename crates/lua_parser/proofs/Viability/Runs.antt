@@ -1,18 +1,15 @@
 -- What a run of the machine says of the words: a tree that they spell, or the first word with which no spelling goes on.
-use Rattle.std.proofs.Common.{◌≡◌, ℕ, Bool, true, false, List, [], ◌∷◌, ◌++◌, Option, Some, None, Result, Ok, Err, refl, sym, subst, ap, append_assoc, append-nil, ◌∙◌}
-use Rattle.std.specs.Prelude.{if◌then◌else◌}
-use Rattle.tl_base.specs.declared.place.Pos.{Pos}
+use Rattle.std.proofs.Common.{◌≡◌, [], ◌∷◌, ◌++◌, Result, Ok, Err, refl, sym, subst, append_assoc}
 use Rattle.tl_base.specs.declared.place.ModuleKind.{ModuleKind}
 use Rattle.lua_tree.specs.declared.syntax.Block.{Block}
-use Rattle.lua_parser.specs.Words.{Word, Words, WordKind, Mark, mark, finish, marked, named, name_at}
+use Rattle.lua_parser.specs.Words.{Word, Words, marked, named, name_at}
 use Rattle.lua_parser.specs.Grammar.Syntax.{SpellsChunk}
 use Rattle.lua_parser.specs.Grammar.Fault.{IsViable}
-use Rattle.lua_parser.specs.Machine.Plan.{Item, Gives, Plan, done, want, want_name, read, Reply, stuck, ends, takes, onward}
-use Rattle.lua_parser.specs.Machine.Steps.{is_mark, if_name, step}
-use Rattle.lua_parser.specs.Machine.Run.{meet, run, finished, module_plan}
-use Rattle.lua_parser.proofs.Viability.Means.{Means, Ensures}
-use Rattle.lua_parser.proofs.Viability.Plans.{Meets, ensures_onward, ensures_map, meets_if, meets_name, meets_stuck, meets_ends, meets_takes, meets_read, meets_taken}
-use Rattle.lua_parser.proofs.Viability.Types.{at}
+use Rattle.lua_parser.specs.Machine.Plan.{Plan, done, want, want_name, read, Reply, stuck, ends, takes}
+use Rattle.lua_parser.specs.Machine.Steps.{step}
+use Rattle.lua_parser.specs.Machine.Run.{meet, run, module_plan}
+use Rattle.lua_parser.proofs.Viability.Means.{Ensures}
+use Rattle.lua_parser.proofs.Viability.Plans.{Meets, ensures_map, meets_if, meets_name, meets_stuck, meets_ends, meets_takes, meets_read, meets_taken}
 use Rattle.lua_parser.proofs.Viability.Stats.{meets}
 use Rattle.lua_parser.proofs.Viability.Closing.{closes, anything}
 

@@ -1,28 +1,25 @@
 -- Each step in a statement or a block keeps what the part stands for.
-use Rattle.std.proofs.Common.{◌≡◌, ℕ, ◌+◌, ◌≤◌, Bool, true, false, List, [], ◌∷◌, ◌++◌, Option, Some, None, refl, sym, subst, ap, append_assoc, append-nil, ◌∙◌, arith}
+use Rattle.std.proofs.Common.{◌≡◌, ℕ, ◌+◌, Bool, true, false, List, [], ◌∷◌, ◌++◌, Option, None, refl, subst, append_assoc, append-nil}
 use Rattle.std.specs.Prelude.{codes, ◌&&◌, if◌then◌else◌}
 use Rattle.tl_base.specs.declared.place.Pos.{Pos}
 use Rattle.tl_base.specs.declared.place.ModuleKind.{ModuleKind}
 use Rattle.tl_base.specs.declared.place.ModuleKind.TheVariants as module_kind
 use Rattle.lua_tree.specs.declared.annotation.Name.{Name}
-use Rattle.lua_tree.specs.declared.annotation.Typed.{Typed}
 use Rattle.lua_tree.specs.declared.annotation.TypeField.{TypeField}
 use Rattle.lua_tree.specs.declared.syntax.Expr.{Expr}
 use Rattle.lua_tree.specs.declared.syntax.Expr.TheVariants as e
 use Rattle.lua_tree.specs.declared.syntax.Stat.{Stat}
 use Rattle.lua_tree.specs.declared.syntax.Stat.TheVariants as stat
-use Rattle.lua_tree.specs.declared.syntax.Clause.{Clause}
-use Rattle.lua_tree.specs.declared.syntax.Block.{Block}
 use Rattle.lua_tree.specs.declared.syntax.Return.{Return}
 use Rattle.lua_lexer.specs.declared.token.Keyword.TheVariants as w
 use Rattle.lua_lexer.specs.declared.token.Symbol.TheVariants as s
-use Rattle.lua_parser.specs.Words.{Word, Words, WordKind, Mark, mark, key, sign, finish, keyword, symbol, marked, named, name_at}
-use Rattle.lua_parser.specs.Grammar.Types.{opens, begins_open, SpellsInterface}
-use Rattle.lua_parser.specs.Grammar.Syntax.{Form, Target, Called, Enclosed, place, block, clause, typed, Spells, SpellsPrefix, SpellsList, SpellsTyped, SpellsTypeds, SpellsNames, SpellsPath, SpellsSemicolon, SpellsBlock, SpellsValues, SpellsStat, SpellsTargets, SpellsClauses, SpellsElse, SpellsStep, SpellsInit}
-use Rattle.lua_parser.specs.Machine.Plan.{Item, Gives, Plan, done, want, want_name, read, Reply, stuck, ends, takes, onward}
-use Rattle.lua_parser.specs.Machine.Steps.{is_mark, is_sign, is_key, is_text, is_typed, start_stat, block_step, targets_step, rest_of_stat_step, values_step, end_of_stat, type_stat_step, step, or_ends, going}
-use Rattle.lua_parser.proofs.Viability.Means.{Means, Ensures, EndedInterface, ended_interface, Assigns, assigns}
-use Rattle.lua_parser.proofs.Viability.Plans.{Begins, Meets, word_is, opens_is, begins_as, begins_with, begins_none, begins_some, meets_stuck, meets_ends, meets_takes, begins_if, begins_name, begins_going, meets_if, meets_if_not, meets_name, meets_begun, meets_or_ends, meets_or_else, meets_both, meets_either, meets_as}
+use Rattle.lua_parser.specs.Words.{Word, Words, WordKind, key, sign, keyword, symbol, named, name_at}
+use Rattle.lua_parser.specs.Grammar.Types.{opens, begins_open}
+use Rattle.lua_parser.specs.Grammar.Syntax.{Form, Target, Called, Enclosed, place, typed, SpellsPrefix, SpellsTyped, SpellsTypeds, SpellsNames, SpellsPath, SpellsSemicolon, SpellsBlock, SpellsValues, SpellsStat, SpellsTargets, SpellsClauses, SpellsElse, SpellsStep, SpellsInit}
+use Rattle.lua_parser.specs.Machine.Plan.{Item, done, want, read, stuck, takes}
+use Rattle.lua_parser.specs.Machine.Steps.{is_text, is_typed, start_stat, block_step, targets_step, rest_of_stat_step, values_step, end_of_stat, type_stat_step, step, or_ends, going}
+use Rattle.lua_parser.proofs.Viability.Means.{Means, EndedInterface, ended_interface, Assigns, assigns}
+use Rattle.lua_parser.proofs.Viability.Plans.{Begins, Meets, begins_with, begins_none, begins_some, meets_stuck, meets_ends, meets_takes, begins_if, begins_name, begins_going, meets_if, meets_name, meets_or_ends, meets_or_else, meets_both, meets_either, meets_as}
 use Rattle.lua_parser.proofs.Viability.Types.{at, both_true, typed_kind, text_is}
 use Rattle.lua_parser.proofs.Viability.Exprs.{one_fits, exprs_begins, Suffixed, suffix_begins, body_joined, meets_expr}
 

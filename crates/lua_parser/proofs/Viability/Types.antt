@@ -1,6 +1,6 @@
 -- Each step in a type keeps what the part stands for.
-use Rattle.std.proofs.Common.{◌≡◌, ℕ, ℤ, Bool, true, false, List, [], ◌∷◌, ◌++◌, Option, Some, None, refl, sym, subst, ap, append_assoc, append-nil, ◌∙◌}
-use Rattle.std.specs.Prelude.{codes, if◌then◌else◌, ◌&&◌}
+use Rattle.std.proofs.Common.{◌≡◌, ℕ, Bool, true, false, List, [], ◌∷◌, ◌++◌, Option, Some, None, refl, sym, subst, ap, append_assoc, append-nil, ◌∙◌}
+use Rattle.std.specs.Prelude.{codes, ◌&&◌}
 use Rattle.std.proofs.lemmas.Slice.Eq.{bytes_eq-Decides}
 use Rattle.tl_base.specs.declared.place.Pos.{Pos}
 use Rattle.tl_base.specs.declared.place.ModuleKind.{ModuleKind}
@@ -13,13 +13,12 @@ use Rattle.lua_tree.specs.declared.annotation.TypeResults.{TypeResults}
 use Rattle.lua_tree.specs.declared.annotation.TypeTuple.{TypeTuple}
 use Rattle.lua_lexer.specs.declared.token.Keyword.TheVariants as w
 use Rattle.lua_lexer.specs.declared.token.Symbol.TheVariants as s
-use Rattle.lua_parser.specs.Words.{Word, Words, WordKind, Mark, mark, key, sign, finish, keyword, symbol, marked, named, name_at}
-use Rattle.lua_parser.specs.Grammar.Types as type
-use Rattle.lua_parser.specs.Grammar.Types.{Ending, InItself, InTuple, InType, opens, begins_open, tuple, field, results, SpellsDotted, SpellsType, SpellsMembers, SpellsMember, SpellsSimple, SpellsFields, SpellsField, SpellsTuple, SpellsItems, SpellsTuples, SpellsResults, SpellsSeparator, SpellsInterface}
+use Rattle.lua_parser.specs.Words.{Word, Words, WordKind, key, sign, keyword, symbol, named, name_at}
+use Rattle.lua_parser.specs.Grammar.Types.{InItself, InTuple, InType, opens, begins_open, tuple, field, results, SpellsDotted, SpellsType, SpellsMembers, SpellsMember, SpellsSimple, SpellsFields, SpellsField, SpellsTuple, SpellsItems, SpellsTuples, SpellsResults, SpellsSeparator, SpellsInterface}
 use Rattle.lua_parser.specs.Grammar.Syntax.{SpellsAnnotation, SpellsOutcome}
-use Rattle.lua_parser.specs.Machine.Plan.{After, ended, joined, Item, Gives, Plan, done, want, want_name, read, Reply, stuck, ends, takes, onward}
+use Rattle.lua_parser.specs.Machine.Plan.{After, ended, joined, Item, done, read}
 use Rattle.lua_parser.specs.Machine.Steps.{start_plain, start_member, start_type, union_of, member_step, name_step, mark_step, paren_step, field_step, types_step, is_text, is_mark, is_sign, is_typed}
-use Rattle.lua_parser.proofs.Viability.Means.{Means, Ensures, AsMember, AsResults, AsTuples, EndedInterface, ended_interface}
+use Rattle.lua_parser.proofs.Viability.Means.{Means, AsMember, AsResults, AsTuples, EndedInterface, ended_interface}
 use Rattle.lua_parser.proofs.Viability.Plans.{Begins, word_is, begins_as, Meets, begins_none, begins_some, meets_stuck, meets_ends, meets_takes, begins_if, begins_name, begins_number, begins_text, begins_going, begins_with, opens_is, meets_if, meets_if_not, meets_name, meets_number, meets_begun, meets_both, meets_either}
 
 -- the word of a kind at a place

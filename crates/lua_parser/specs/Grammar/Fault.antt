@@ -1,6 +1,5 @@
 -- The first word with which no spelling goes on, and its code.
-use Rattle.std.specs.Prelude.{◌≡◌, List, [], ◌∷◌, ◌++◌, Option, Some, None}
-use Rattle.tl_base.specs.declared.place.Pos.{Pos}
+use Rattle.std.specs.Prelude.{◌≡◌, [], ◌∷◌, ◌++◌, Option, Some, None}
 use Rattle.tl_base.specs.declared.place.ModuleKind.{ModuleKind}
 use Rattle.tl_base.specs.declared.place.ModuleKind.TheVariants as module_kind
 use Rattle.tl_base.specs.declared.refusal.RefusalCode.{RefusalCode}

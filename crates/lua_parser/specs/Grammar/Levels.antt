@@ -1,6 +1,5 @@
 -- The operators: their spellings and how tightly each binds (Lua 5.3 manual, section 3.4.8).
 use Rattle.std.specs.Prelude.{ℕ, ◌+◌}
-use Rattle.tl_base.specs.declared.place.Pos.{Pos}
 use Rattle.lua_tree.specs.declared.syntax.UnaryOperator.{UnaryOperator}
 use Rattle.lua_tree.specs.declared.syntax.UnaryOperator.TheVariants as u
 use Rattle.lua_tree.specs.declared.syntax.BinaryOperator.{BinaryOperator}

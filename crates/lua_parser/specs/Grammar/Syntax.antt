@@ -20,7 +20,7 @@ use Rattle.lua_tree.specs.declared.syntax.Entry.{Entry}
 use Rattle.lua_tree.specs.declared.syntax.Stat.{Stat}
 use Rattle.lua_tree.specs.declared.syntax.Entry.TheVariants as entry
 use Rattle.lua_tree.specs.declared.syntax.Entry.TheViews.{roll-Block, roll-Body, roll-Clause, roll-Return}
-use Rattle.lua_tree.specs.declared.syntax.Expr.{Expr, Nil, Bool as BoolExpr, Int, Str, Vararg, Function', Name as NameExpr, Paren', Field', Index', Call', Method', Table', Unary', Binary', Mark'}
+use Rattle.lua_tree.specs.declared.syntax.Expr.{Expr, Nil, Bool as BoolExpr, Int, Str, Vararg, Function', Name as NameExpr, Paren', Field', Index', Call', Method', Table', Unary', Binary'}
 use Rattle.lua_tree.specs.declared.syntax.Expr.TheVariants as e
 use Rattle.lua_tree.specs.declared.syntax.Stat.TheVariants as stat
 use Rattle.lua_lexer.specs.declared.token.Keyword.TheVariants as w

@@ -11,7 +11,7 @@ use Rattle.lua_tree.specs.declared.annotation.TypeResults.{TypeResults}
 use Rattle.lua_tree.specs.declared.annotation.TypeExpr.TheViews.{roll-TypeField, roll-TypeTuple, roll-TypeResults}
 use Rattle.lua_lexer.specs.declared.token.Keyword.TheVariants as w
 use Rattle.lua_lexer.specs.declared.token.Symbol.TheVariants as s
-use Rattle.lua_parser.specs.Words.{Word, Words, WordKind, Mark, mark, sign, keyword, symbol, named, numeral, quoted, name_at}
+use Rattle.lua_parser.specs.Words.{Words, WordKind, mark, sign, keyword, symbol, named, numeral, quoted, name_at}
 
 -- the place of a type's first token
 abbrev pub place : TypeExpr → Pos

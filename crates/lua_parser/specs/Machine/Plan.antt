@@ -1,5 +1,5 @@
 -- A reader of words: what it may still have to read, and what each part gives. It stands between grammar and code.
-use Rattle.std.specs.Prelude.{◌≡◌, ℕ, ◌==◌, Bool, true, false, List, [], ◌∷◌, Option, Some, None, Result, Ok, Err, if◌then◌else◌}
+use Rattle.std.specs.Prelude.{ℕ, Bool, List, Option}
 use Rattle.tl_base.specs.declared.place.Pos.{Pos}
 use Rattle.lua_tree.specs.declared.annotation.Name.{Name}
 use Rattle.lua_tree.specs.declared.annotation.Typed.{Typed}
@@ -15,7 +15,7 @@ use Rattle.lua_tree.specs.declared.syntax.Return.{Return}
 use Rattle.lua_tree.specs.declared.syntax.Entry.{Entry}
 use Rattle.lua_tree.specs.declared.syntax.Stat.{Stat}
 use Rattle.lua_tree.specs.declared.syntax.Expr.{Expr}
-use Rattle.lua_parser.specs.Words.{Words, Mark}
+use Rattle.lua_parser.specs.Words.{Mark}
 use Rattle.lua_parser.specs.Grammar.Types.{Ending}
 use Rattle.lua_parser.specs.Grammar.Syntax.{Form}
 

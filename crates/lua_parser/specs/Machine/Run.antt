@@ -1,10 +1,10 @@
 -- The reading of words by a plan, one word at a time.
-use Rattle.std.specs.Prelude.{ℕ, Bool, true, false, List, [], ◌∷◌, Option, Some, None, Result, Ok, Err, if◌then◌else◌}
+use Rattle.std.specs.Prelude.{true, false, [], ◌∷◌, Result, Ok, Err, if◌then◌else◌}
 use Rattle.tl_base.specs.declared.place.ModuleKind.{ModuleKind}
 use Rattle.lua_tree.specs.declared.syntax.Block.{Block}
 use Rattle.lua_parser.specs.Words.{Word, Words, finish, name_at}
 use Rattle.lua_parser.specs.Grammar.Syntax.{block}
-use Rattle.lua_parser.specs.Machine.Plan.{Item, Gives, Plan, done, want, want_name, read, Reply, stuck, ends, takes, onward}
+use Rattle.lua_parser.specs.Machine.Plan.{Item, Plan, done, want, want_name, read, Reply, stuck, ends, takes, onward}
 use Rattle.lua_parser.specs.Machine.Steps.{is_mark, if_name, step}
 
 

@@ -1,5 +1,5 @@
 -- What each part of a module does at the next word.
-use Rattle.std.specs.Prelude.{◌≡◌, ℕ, ◌+◌, ◌==◌, nat_le, nat_eq, Bool, true, false, ◌&&◌, List, [], ◌∷◌, Option, Some, None, if◌then◌else◌, codes, neg_ℤ, ℤ}
+use Rattle.std.specs.Prelude.{ℕ, ◌+◌, ◌==◌, nat_le, nat_eq, Bool, true, false, ◌&&◌, List, [], ◌∷◌, Option, Some, None, if◌then◌else◌, codes, neg_ℤ, ℤ}
 use Rattle.std.specs.Int.{w64, int_wrap}
 use Rattle.std.specs.Cmp.Lexicographic.{pointwise}
 use Rattle.tl_base.specs.declared.place.Pos.{Pos}
@@ -26,7 +26,7 @@ use Rattle.lua_lexer.specs.declared.token.Keyword.{Keyword}
 use Rattle.lua_lexer.specs.declared.token.Keyword.TheVariants as w
 use Rattle.lua_lexer.specs.declared.token.Symbol.{Symbol}
 use Rattle.lua_lexer.specs.declared.token.Symbol.TheVariants as s
-use Rattle.lua_parser.specs.Words.{Word, WordKind, Mark, mark, key, sign, finish, name_at}
+use Rattle.lua_parser.specs.Words.{WordKind, Mark, mark, key, sign, finish, name_at}
 use Rattle.lua_parser.specs.Grammar.Levels.{level, unary_level, left_level, right_level}
 use Rattle.lua_parser.specs.Grammar.Types as type
 use Rattle.lua_parser.specs.Grammar.Types.{Ending, InItself, InTuple, InType, opens, field, tuple, results}
