@@ -21,6 +21,16 @@ pub enum RefusalCode {
     L4,
     /// a file longer than 1048576 bytes
     L5,
+    /// a word that no module has there
+    P1,
+    /// `/` or `^`
+    P2,
+    /// `goto` or `::`
+    P3,
+    /// constructs too deep in one another
+    P4,
+    /// a word that only a typed module has there
+    P5,
     /// a name that is neither a local nor a name of the library
     S1,
     /// an assignment to a name of the library
@@ -60,6 +70,11 @@ impl RefusalCode {
             RefusalCode::L3 => "L3",
             RefusalCode::L4 => "L4",
             RefusalCode::L5 => "L5",
+            RefusalCode::P1 => "P1",
+            RefusalCode::P2 => "P2",
+            RefusalCode::P3 => "P3",
+            RefusalCode::P4 => "P4",
+            RefusalCode::P5 => "P5",
             RefusalCode::S1 => "S1",
             RefusalCode::S2 => "S2",
             RefusalCode::S3 => "S3",

@@ -1,0 +1,10 @@
+//! The grammar of Lua with optional types, and the reading of a module's tree.
+#![tactic(auto)]
+
+mod cursor;
+mod expressions;
+mod operators;
+mod reader;
+mod theorems;
+
+pub use theorems::at_most_one_tree;
