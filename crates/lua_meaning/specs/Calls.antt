@@ -1,5 +1,5 @@
 -- Calls (Lua 5.3 manual, 3.4.10): the two outer recursions, on the calls that may still begin and on turns.
-use Rattle.std.specs.Prelude.{ℕ, ◌+◌, ◌-◌, zero, suc, Bool, true, false, List, [], ◌∷◌, ◌++◌, length, drop, Option, Some, None, codes}
+use Rattle.std.specs.Prelude.{ℕ, zero, suc, List, [], ◌∷◌, ◌++◌, length, drop, Option, Some, None, codes}
 use Rattle.tl_base.specs.declared.place.Pos.{Pos}
 use Rattle.lua_tree.specs.declared.names.LibName.{LibName}
 use Rattle.lua_tree.specs.declared.names.LibName.TheVariants as lib
@@ -11,7 +11,7 @@ use Rattle.lua_values.specs.declared.value.Value.{Value}
 use Rattle.lua_values.specs.declared.value.Value.TheVariants as value
 use Rattle.lua_meaning.specs.World.{write}
 use Rattle.lua_meaning.specs.Environment.{Env, behind}
-use Rattle.lua_meaning.specs.Outcomes.{Act, Closure, Flow, cut, give, ◌>>=◌, ◌>>◌, change, turn, fail_at, kind_error_at, closure_at, results_of}
+use Rattle.lua_meaning.specs.Outcomes.{Act, Closure, cut, give, ◌>>=◌, ◌>>◌, change, turn, fail_at, kind_error_at, closure_at, results_of}
 use Rattle.lua_meaning.specs.Operators.{kind_name}
 use Rattle.lua_meaning.specs.Trees.{Caller, Looper, adjust, declare_all, exec_all, go_round}
 

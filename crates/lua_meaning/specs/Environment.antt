@@ -1,7 +1,7 @@
 -- What names mean where a tree is run: lexical scoping (Lua 5.3 manual, 3.5).
 -- A use of a name leads by its number to a local's number, or to a name of the library. Locals are numbered in order of place, so each form
 -- knows the numbers of the locals that it declares from how many are declared before it in the module's text.
-use Rattle.std.specs.Prelude.{ℕ, ◌+◌, nat_eq, List, [], ◌∷◌, length, Option, Some, None, option_map, slice_get}
+use Rattle.std.specs.Prelude.{ℕ, ◌+◌, nat_eq, List, ◌∷◌, Option, slice_get}
 use Rattle.std.specs.Map.{lookup}
 use Rattle.lua_tree.specs.declared.scoped.Use.{Use}
 use Rattle.lua_tree.specs.declared.scoped.Require.{Require}

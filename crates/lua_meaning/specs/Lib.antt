@@ -3,6 +3,7 @@ pub mod Environment
 pub mod Locals
 pub mod Operators
 pub mod Outcomes
+pub mod PlainPrograms
 pub mod Programs
 pub mod Trees
 pub mod World

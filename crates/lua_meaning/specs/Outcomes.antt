@@ -1,7 +1,6 @@
 -- How a part of a run ends, and how parts follow one another (Lua 5.3 manual, 2.3 on errors).
 use Rattle.std.specs.Prelude.{ℕ, ◌+◌, ◌-◌, zero, suc, Bool, true, false, List, [], ◌∷◌, ◌++◌, length, Option, slice_get}
 use Rattle.tl_base.specs.declared.place.Pos.{Pos}
-use Rattle.tl_base.specs.declared.crossing.Crossing.{Crossing}
 use Rattle.lua_values.specs.declared.value.Value.{Value}
 use Rattle.lua_values.specs.declared.value.Value.TheVariants as value
 use Rattle.lua_tree.specs.Tree.{Function}

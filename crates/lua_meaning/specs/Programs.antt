@@ -1,15 +1,14 @@
 -- The meaning of a program: of its modules, their file words, the input and a number of turns.
-use Rattle.std.specs.Prelude.{ℕ, ◌-◌, List, [], ◌∷◌, map, Option, None, replicate, length}
+use Rattle.std.specs.Prelude.{ℕ, ◌-◌, List, [], ◌∷◌, map, Option, None}
 use Rattle.tl_base.specs.declared.place.ModuleKind.{ModuleKind}
 use Rattle.tl_base.specs.declared.crossing.Crossing.{Crossing}
 use Rattle.lua_tree.specs.declared.scoped.Scoped.{Scoped}
-use Rattle.lua_tree.specs.Tree as tree
 use Rattle.lua_tree.specs.Tree.{Block}
 use Rattle.lua_tree.specs.View.{block_of}
 use Rattle.lua_values.specs.declared.value.Value.{Value}
 use Rattle.lua_meaning.specs.World.{World, KindError}
 use Rattle.lua_meaning.specs.Environment.{Env, Names}
-use Rattle.lua_meaning.specs.Outcomes.{Act, Outcome, gives, raises, cut, Closure, give, ◌>>=◌, ◌>>◌, turn, results_of}
+use Rattle.lua_meaning.specs.Outcomes.{Act, Outcome, gives, raises, cut, give, ◌>>=◌, ◌>>◌, turn, results_of}
 use Rattle.lua_meaning.specs.Trees.{exec_all}
 use Rattle.lua_meaning.specs.Calls.{limit, below_of, apply}
 

@@ -2,13 +2,12 @@
 -- Operands, arguments and targets go from left to right. Calls, and the further turns of loops, are left to two parameters.
 -- Constructors, indexes and method calls are still to come. Until then a constructor or an index is nil, a method call gives nothing, and a store
 -- into a table does nothing; a name of the library is there already.
-use Rattle.std.specs.Prelude.{ℕ, ◌+◌, ◌-◌, ◌^◌, zero, suc, ℤ, pos, negsuc, ◌+ℤ◌, Bool, true, false, List, [], ◌∷◌, ◌++◌, length, drop, Option, Some, None, codes}
+use Rattle.std.specs.Prelude.{ℕ, ◌+◌, ◌-◌, ◌^◌, zero, suc, ℤ, pos, negsuc, ◌+ℤ◌, List, [], ◌∷◌, ◌++◌, length, drop, Option, Some, None, codes}
 use Rattle.tl_base.specs.declared.place.Pos.{Pos}
 use Rattle.lua_tree.specs.declared.names.LibName.{LibName}
 use Rattle.lua_tree.specs.declared.names.LibName.TheVariants as lib
 use Rattle.lua_tree.specs.declared.scoped.Use.{Use}
 use Rattle.lua_tree.specs.declared.scoped.Use.TheVariants as means
-use Rattle.lua_tree.specs.declared.syntax.Rest.{Rest}
 use Rattle.lua_tree.specs.Tree as tree
 use Rattle.lua_tree.specs.Tree.{Exp, Multi, Exps, Function, Stat, Targets, Clauses, Else, Step, Block}
 use Rattle.lua_tree.specs.Places.{place_of, multi_place}
@@ -16,7 +15,7 @@ use Rattle.lua_values.specs.Values.{is_nil}
 use Rattle.lua_values.specs.declared.value.Value.{Value}
 use Rattle.lua_values.specs.declared.value.Value.TheVariants as value
 use Rattle.lua_meaning.specs.World.{read_cell, write_cell, pass}
-use Rattle.lua_meaning.specs.Environment.{Env, Bound, cell_of, use_of, behind, with_bound, bind}
+use Rattle.lua_meaning.specs.Environment.{Env, cell_of, use_of, behind, with_bound, bind}
 use Rattle.lua_meaning.specs.Outcomes.{Act, Flow, normal, returned, broken, give, ◌>>=◌, ◌>>◌, look, change, turn, fail_at, kind_error_at, new_cell, new_closure, either, then_do, leave_block, next_turn}
 use Rattle.lua_meaning.specs.Locals.{exp_locals, exps_locals, targets_locals, clauses_locals, step_locals, stat_locals, block_locals}
 use Rattle.lua_meaning.specs.Operators.{Answer, value_is, wrong_kind, fails, is_true, kind_name, operate, operate_on, keeps_left, runs_for}
@@ -53,6 +52,7 @@ library_use u = give value.Nil
 
 abbrev pub library_field : Exp → Env → Act Value
 library_field (tree.name p u s) env = library_use (use_of env u)
+library_field (tree.mark k e) env = library_field e env
 library_field e env = give value.Nil
 
 -- what a store goes into
@@ -103,7 +103,8 @@ answered p (fails what) = fail_at p what
 -- what is left of a loop: a `while` or `repeat` from its beginning; a numeric `for` of the local x from this value on, with its limit and step;
 -- a generic `for` of so many locals from x on, from the call of its iterator on, which stands at a place
 pub data Loop : Type 0 where
-  again : Stat → Loop
+  while_again : Pos → Exp → Block → Loop
+  repeat_again : Pos → Block → Exp → Loop
   counting : (x : ℕ) (i limit step : ℤ) → Block → Loop
   iterating : Pos → (x count : ℕ) (iterator state control : Value) → Block → Loop
 
@@ -245,7 +246,7 @@ module _ (call : Caller) (loop : Looper) where
           (do
             turn
             flow ← exec_all b (behind (exp_locals e) env)
-            next_turn env.bound flow (λ _. loop (again (tree.while p e b)) env))
+            next_turn env.bound flow (λ _. loop (while_again p e b) env))
           (give (normal env.bound))
     -- the condition sees the locals of the body
     exec (tree.repeat p b e) env = do
@@ -253,7 +254,7 @@ module _ (call : Caller) (loop : Looper) where
       flow ← exec_all b env
       next_turn env.bound flow (λ inner. do
         v ← eval e (behind (block_locals b) (with_bound inner env))
-        either (is_true v) (give (normal env.bound)) (loop (again (tree.repeat p b e)) env))
+        either (is_true v) (give (normal env.bound)) (loop (repeat_again p b e) env))
     exec (tree.choose p cs b) env = exec_clauses cs (exec_else b (behind (clauses_locals cs) env)) env
     -- each bound is an integer before the next is evaluated
     exec (tree.count p n a b c d) env = do
@@ -313,6 +314,7 @@ module _ (call : Caller) (loop : Looper) where
 
   -- what is left of a loop, with the loops and calls of this level
   abbrev pub go_round : Looper
-  go_round (again s) env = exec s env
+  go_round (while_again p e b) env = exec (tree.while p e b) env
+  go_round (repeat_again p b e) env = exec (tree.repeat p b e) env
   go_round (counting x i limit step b) env = count_from (λ env1. exec_all b env1) x i limit step b env
   go_round (iterating p x count iterator state control b) env = iterate (λ env1. exec_all b env1) p x count iterator state control b env

@@ -1,7 +1,6 @@
 -- The world of a run: what its store, its files, its output and input, its turns and its two records hold (Lua 5.3 manual, 2.1 and 3.2).
 -- Closures stand beside the world, in a list of their own: the meaning of trees keeps trees in them, stack code numbers of functions.
-use Rattle.std.specs.Prelude.{ℕ, ◌+◌, ◌-◌, zero, suc, List, [], ◌∷◌, ◌++◌, length, Option, Some, None, slice_get, slice_index_or, slice_set, codes}
-use Rattle.std.specs.Option.{option_map_or}
+use Rattle.std.specs.Prelude.{ℕ, List, [], ◌∷◌, ◌++◌, Option, Some, None, slice_index_or, slice_set, codes}
 use Rattle.std.specs.Fmt.{decimal}
 use Rattle.tl_base.specs.declared.place.Pos.{Pos}
 use Rattle.tl_base.specs.declared.place.ModuleKind.{ModuleKind}

@@ -1,5 +1,5 @@
 -- Blocks, branches and loops, and the turns that they use.
-use Rattle.std.proofs.Common.{◌≡◌, refl, ℕ, ◌^◌, ◌-◌, pos, true, false, List, [], ◌∷◌, codes}
+use Rattle.std.proofs.Common.{◌≡◌, refl, true, false, [], ◌∷◌, codes}
 use Rattle.std.specs.Fmt.{digits}
 use Rattle.std.specs.Int.{int_wrap}
 use Rattle.lua_tree.specs.declared.syntax.BinaryOperator.TheVariants as b
@@ -7,7 +7,7 @@ use Rattle.lua_tree.specs.declared.syntax.UnaryOperator.TheVariants as u
 use Rattle.lua_tree.specs.Tree as tree
 use Rattle.lua_tree.specs.Tree.{Exp}
 use Rattle.lua_meaning.specs.Programs.{finished, spent}
-use Rattle.lua_meaning.proofs.Rows.Shorthand.{num, nil, boolean, str, var, op, un, list, list_with, called, call, func, body, body_with, locals, local_function, print, print_all, set, scope, when, when_or, while, repeat, count, count_by, each, leave, run, word, here, runs}
+use Rattle.lua_meaning.proofs.Rows.Shorthand.{num, boolean, str, var, op, un, list, call, func, body, body_with, locals, local_function, print, set, scope, when, when_or, while, repeat, count, count_by, leave, word, here, runs}
 
 nothing_takes_the_turn_of_its_block : runs 10 [] ≡ ([], finished, 1)
 nothing_takes_the_turn_of_its_block = refl

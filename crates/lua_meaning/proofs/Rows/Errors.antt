@@ -1,18 +1,15 @@
 -- Errors, their texts and their places, and what is recorded of them.
-use Rattle.std.proofs.Common.{◌≡◌, refl, ℕ, pos, true, false, List, [], ◌∷◌, Some, None, codes}
+use Rattle.std.proofs.Common.{◌≡◌, refl, ℕ, pos, true, List, [], ◌∷◌, Some, None, codes}
 use Rattle.std.specs.Fmt.{digits}
 use Rattle.std.specs.Int.{int_wrap}
 use Rattle.tl_base.specs.declared.place.ModuleKind.TheVariants.{Typed, Untyped}
 use Rattle.tl_base.specs.declared.crossing.CrossKind.TheVariants as cross
-use Rattle.lua_tree.specs.declared.names.LibName.TheVariants as lib
 use Rattle.lua_tree.specs.declared.syntax.BinaryOperator.TheVariants as b
 use Rattle.lua_tree.specs.declared.syntax.UnaryOperator.TheVariants as u
 use Rattle.lua_tree.specs.Tree as tree
 use Rattle.lua_values.specs.declared.value.Value.TheVariants as value
-use Rattle.lua_meaning.specs.Outcomes.{Outcome, raises, gives}
-use Rattle.lua_meaning.specs.Calls.{apply, below_of}
-use Rattle.lua_meaning.specs.Programs.{Ending, Result, Module, finished, failed, spent, meaning, result_of, run_with, start}
-use Rattle.lua_meaning.proofs.Rows.Shorthand.{at, here, num, nil, boolean, str, var, op, un, list, call, func, body, body_with, locals, local_function, print, set, while, count, count_by, each, run, word, names, uses, module_with, result, runs}
+use Rattle.lua_meaning.specs.Programs.{Ending, failed, meaning, result_of, run_with, start}
+use Rattle.lua_meaning.proofs.Rows.Shorthand.{at, here, num, nil, boolean, str, var, op, un, list, call, func, body, body_with, locals, local_function, print, run, word, module_with, runs}
 
 error : List ℕ → Ending
 error text = failed (value.Str text)

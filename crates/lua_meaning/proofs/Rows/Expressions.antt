@@ -1,5 +1,5 @@
 -- Expressions: arithmetic, texts, comparison, logic, order of evaluation.
-use Rattle.std.proofs.Common.{◌≡◌, refl, ℕ, ◌^◌, ◌-◌, pos, true, false, List, [], ◌∷◌, codes}
+use Rattle.std.proofs.Common.{◌≡◌, refl, ℕ, true, false, [], ◌∷◌, codes}
 use Rattle.std.specs.Fmt.{digits}
 use Rattle.std.specs.Int.{int_wrap}
 use Rattle.lua_tree.specs.declared.syntax.BinaryOperator.TheVariants as b
@@ -7,7 +7,7 @@ use Rattle.lua_tree.specs.declared.syntax.UnaryOperator.TheVariants as u
 use Rattle.lua_tree.specs.Tree as tree
 use Rattle.lua_tree.specs.Tree.{Exp}
 use Rattle.lua_meaning.specs.Programs.{finished}
-use Rattle.lua_meaning.proofs.Rows.Shorthand.{num, nil, boolean, str, var, op, un, list, list_with, called, call, func, body, body_with, locals, local_function, print, print_all, set, scope, word, here, runs}
+use Rattle.lua_meaning.proofs.Rows.Shorthand.{num, nil, boolean, str, var, op, un, list, call, func, body_with, locals, local_function, print, set, word, here, runs}
 
 neg : ℕ → Exp
 neg n = un u.Negate (num n)

@@ -1,11 +1,11 @@
 -- Functions, closures, `...`, and the generic `for`.
-use Rattle.std.proofs.Common.{◌≡◌, refl, ℕ, pos, true, false, List, [], ◌∷◌, codes}
+use Rattle.std.proofs.Common.{◌≡◌, refl, [], ◌∷◌, codes}
 use Rattle.std.specs.Fmt.{digits}
 use Rattle.std.specs.Int.{int_wrap}
 use Rattle.lua_tree.specs.declared.syntax.BinaryOperator.TheVariants as b
 use Rattle.lua_tree.specs.Tree as tree
 use Rattle.lua_meaning.specs.Programs.{finished, spent}
-use Rattle.lua_meaning.proofs.Rows.Shorthand.{num, nil, boolean, str, var, op, list, list_with, called, call, dots, func, func_with_rest, body, body_with, locals, local_function, print, print_all, set, scope, when, when_or, while, count, each, run, here, runs}
+use Rattle.lua_meaning.proofs.Rows.Shorthand.{num, nil, var, op, list, list_with, called, call, dots, func, func_with_rest, body, body_with, locals, local_function, print, print_all, set, each, run, here, runs}
 
 -- local function c() local n = 0 return function() n = n + 1 return n end end
 -- local a, b = c(), c()

@@ -1,9 +1,9 @@
 -- Words to write small programs with. Every text stands at the first place, unless a place is given.
 -- The use of a name below 20 means the local of that number, and use 20 means `print`.
-use Rattle.std.specs.Prelude.{ℕ, pos, Bool, List, [], ◌∷◌, replicate, length, codes, Option, Some, None}
+use Rattle.std.specs.Prelude.{ℕ, pos, Bool, List, [], ◌∷◌, replicate, codes, Some, None}
 use Rattle.tl_base.specs.declared.place.Pos.{Pos}
 use Rattle.tl_base.specs.declared.place.ModuleKind.{ModuleKind}
-use Rattle.tl_base.specs.declared.place.ModuleKind.TheVariants.{Typed, Untyped}
+use Rattle.tl_base.specs.declared.place.ModuleKind.TheVariants.{Untyped}
 use Rattle.lua_tree.specs.declared.annotation.Name as declared_name
 use Rattle.lua_tree.specs.declared.annotation.Typed as declared_typed
 use Rattle.lua_tree.specs.declared.names.LibName.TheVariants as lib
