@@ -1,0 +1,4 @@
+pub mod Configurations
+pub mod Instructions
+pub mod Listings
+pub mod Steps
