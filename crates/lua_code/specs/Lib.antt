@@ -1,4 +1,6 @@
 pub mod Configurations
+pub mod Generated
 pub mod Instructions
 pub mod Listings
+pub mod Sizes
 pub mod Steps

@@ -1,2 +1,2 @@
 mod Marks
-mod Rows
+pub mod Rows

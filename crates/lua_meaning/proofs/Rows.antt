@@ -1,6 +1,6 @@
 -- Small programs and what they do, by computation.
 pub mod Shorthand
-mod Expressions
-mod Control
-mod Functions
-mod Errors
+pub mod Expressions
+pub mod Control
+pub mod Functions
+pub mod Errors
