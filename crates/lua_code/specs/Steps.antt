@@ -135,3 +135,22 @@ result_of turns (Some e) = Some (ended turns e.ending e.world)
 abbrev pub run : Code → List ModuleKind → List (List ℕ) → List ℕ → ℕ → ℕ → Option Result
 run code kinds words input turns steps =
     result_of turns (end_of (halts code.functions steps) (begin_turn code.functions turns (start kinds words input turns)))
+
+-- ---- the trace: the instructions begun, each by its function's number and its place there
+
+abbrev pub begun : Option (Instr × Pos) → Frame → List (ℕ × ℕ)
+begun None f = []
+begun (Some i) f = (f.function, f.at) ∷ []
+
+abbrev pub begun_in : List Proto → Config → List (ℕ × ℕ)
+begun_in code (running f levels w ks) = begun (instruction code f) f
+begun_in code c = []
+
+abbrev pub traced_on : (Config → List (ℕ × ℕ)) → Next → List (ℕ × ℕ)
+traced_on more (go c) = more c
+traced_on more n = []
+
+-- those of so many steps
+abbrev pub trace : List Proto → ℕ → Config → List (ℕ × ℕ)
+trace code zero c = []
+trace code (suc n) c = begun_in code c ++ traced_on (trace code n) (step code c)

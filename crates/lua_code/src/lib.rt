@@ -4,6 +4,8 @@
 mod code;
 mod frames;
 mod laws;
+#[cfg(test)]
+mod tests;
 mod writing;
 
 pub use code::{Capture, Code, Instr, Proto};

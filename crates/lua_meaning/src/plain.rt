@@ -7,3 +7,13 @@ ghost use Rattle.lua_meaning.specs.PlainPrograms.{plain_module, IsSameRun};
 pub fn plain_programs_run_alike()
     ensures { (ms : List Module) (words : List (List ℕ)) (input : List ℕ) (n : ℕ) → IsSameRun (meaning ms words input n) (meaning (map plain_module ms) words input n) }
 {}
+
+#[cfg(test)]
+mod tests {
+    use super::*;
+
+    #[test]
+    fn laws_compute_nothing() {
+        plain_programs_run_alike();
+    }
+}
