@@ -1,6 +1,6 @@
 -- The code of a program, as a function of its modules. Every local and every parameter is a cell.
 -- A loop has its condition at the bottom, so that each jump back goes to a `Turn`.
-use Rattle.std.specs.Prelude.{ℕ, zero, suc, ◌+◌, nat_eq, pos, Bool, true, false, List, [], ◌∷◌, ◌++◌, length, map, position, slice_get, Option, Some, None}
+use Rattle.std.specs.Prelude.{ℕ, zero, suc, ◌+◌, nat_eq, pos, Bool, true, false, List, [], ◌∷◌, ◌++◌, length, map, cond, slice_get, Option, Some, None}
 use Rattle.std.specs.Option.{is_some}
 use Rattle.std.specs.Map.{lookup, keys_of}
 use Rattle.tl_base.specs.declared.place.Pos.{Pos}
@@ -68,6 +68,11 @@ behind_block tree.finish sc = sc
 behind_block (tree.returns p es) sc = past (exps_locals es) sc
 behind_block (tree.next s b) sc = behind_block b (behind_stat s sc)
 
+-- where a local stands among the captured ones, which are counted from i on
+abbrev pub captured_from : ℕ → ℕ → List ℕ → Option ℕ
+captured_from i x [] = None
+captured_from i x (y ∷ ys) = cond (nat_eq x y) (Some i) (captured_from (i + 1) x ys)
+
 abbrev pub from_captured : (ℕ → Instr) → Instr → Option ℕ → Instr
 from_captured there nowhere (Some i) = there i
 from_captured there nowhere None = nowhere
@@ -77,10 +82,10 @@ from_own here (Some s) outside = here s
 from_own here None outside = outside
 
 abbrev pub read_local : Scope → ℕ → Instr
-read_local sc x = from_own (λ s. instr.GetCell s) (lookup (nat_eq x) sc.own) (from_captured (λ i. instr.GetUp i) instr.Nil (position (nat_eq x) sc.captured))
+read_local sc x = from_own (λ s. instr.GetCell s) (lookup (nat_eq x) sc.own) (from_captured (λ i. instr.GetUp i) instr.Nil (captured_from 0 x sc.captured))
 
 abbrev pub write_local : Scope → ℕ → Instr
-write_local sc x = from_own (λ s. instr.SetCell s) (lookup (nat_eq x) sc.own) (from_captured (λ i. instr.SetUp i) instr.Pop (position (nat_eq x) sc.captured))
+write_local sc x = from_own (λ s. instr.SetCell s) (lookup (nat_eq x) sc.own) (from_captured (λ i. instr.SetUp i) instr.Pop (captured_from 0 x sc.captured))
 
 abbrev pub read_use : Scope → Option Use → Instr
 read_use sc None = instr.Nil
@@ -121,7 +126,7 @@ target_count (tree.target e ts) = target_count ts + 1
 -- n values on the stack go into the slots from s on, and then into cells of their own
 abbrev pub set_slots : ℕ → ℕ → Pos → Placed
 set_slots s zero p = []
-set_slots s (suc n) p = (instr.SetSlot (s + n), p) ∷ set_slots s n p
+set_slots s (suc n) p = set_slots (s + 1) n p ++ one (instr.SetSlot s) p
 
 abbrev pub new_cells : ℕ → ℕ → Pos → Placed
 new_cells s zero p = []
@@ -158,23 +163,23 @@ unary_instr unary.BitNot = instr.BNot
 abbrev pub binary_code : BinaryOperator → Pos → ℕ → ℕ → Placed → Placed → Placed
 binary_code binary.Or p slot end a b = a ++ (instr.KeepIf end, p) ∷ b
 binary_code binary.And p slot end a b = a ++ (instr.KeepIfNot end, p) ∷ b
-binary_code binary.Less p slot end a b = a ++ b ++ one instr.Lt p
-binary_code binary.Greater p slot end a b = a ++ (instr.SetSlot slot, p) ∷ b ++ (instr.GetSlot slot, p) ∷ one instr.Lt p
-binary_code binary.LessEqual p slot end a b = a ++ b ++ one instr.Le p
-binary_code binary.GreaterEqual p slot end a b = a ++ (instr.SetSlot slot, p) ∷ b ++ (instr.GetSlot slot, p) ∷ one instr.Le p
-binary_code binary.NotEqual p slot end a b = a ++ b ++ (instr.Eq, p) ∷ one instr.Not p
-binary_code binary.Equal p slot end a b = a ++ b ++ one instr.Eq p
-binary_code binary.BitOr p slot end a b = a ++ b ++ one instr.BOr p
-binary_code binary.BitXor p slot end a b = a ++ b ++ one instr.BXor p
-binary_code binary.BitAnd p slot end a b = a ++ b ++ one instr.BAnd p
-binary_code binary.ShiftLeft p slot end a b = a ++ b ++ one instr.Shl p
-binary_code binary.ShiftRight p slot end a b = a ++ b ++ one instr.Shr p
-binary_code binary.Concat p slot end a b = a ++ b ++ one instr.Concat p
-binary_code binary.Add p slot end a b = a ++ b ++ one instr.Add p
-binary_code binary.Subtract p slot end a b = a ++ b ++ one instr.Sub p
-binary_code binary.Multiply p slot end a b = a ++ b ++ one instr.Mul p
-binary_code binary.Divide p slot end a b = a ++ b ++ one instr.IDiv p
-binary_code binary.Modulo p slot end a b = a ++ b ++ one instr.Mod p
+binary_code binary.Less p slot end a b = a ++ (b ++ one instr.Lt p)
+binary_code binary.Greater p slot end a b = a ++ (instr.SetSlot slot, p) ∷ (b ++ (instr.GetSlot slot, p) ∷ one instr.Lt p)
+binary_code binary.LessEqual p slot end a b = a ++ (b ++ one instr.Le p)
+binary_code binary.GreaterEqual p slot end a b = a ++ (instr.SetSlot slot, p) ∷ (b ++ (instr.GetSlot slot, p) ∷ one instr.Le p)
+binary_code binary.NotEqual p slot end a b = a ++ (b ++ (instr.Eq, p) ∷ one instr.Not p)
+binary_code binary.Equal p slot end a b = a ++ (b ++ one instr.Eq p)
+binary_code binary.BitOr p slot end a b = a ++ (b ++ one instr.BOr p)
+binary_code binary.BitXor p slot end a b = a ++ (b ++ one instr.BXor p)
+binary_code binary.BitAnd p slot end a b = a ++ (b ++ one instr.BAnd p)
+binary_code binary.ShiftLeft p slot end a b = a ++ (b ++ one instr.Shl p)
+binary_code binary.ShiftRight p slot end a b = a ++ (b ++ one instr.Shr p)
+binary_code binary.Concat p slot end a b = a ++ (b ++ one instr.Concat p)
+binary_code binary.Add p slot end a b = a ++ (b ++ one instr.Add p)
+binary_code binary.Subtract p slot end a b = a ++ (b ++ one instr.Sub p)
+binary_code binary.Multiply p slot end a b = a ++ (b ++ one instr.Mul p)
+binary_code binary.Divide p slot end a b = a ++ (b ++ one instr.IDiv p)
+binary_code binary.Modulo p slot end a b = a ++ (b ++ one instr.Mod p)
 
 abbrev pub truth_instr : Bool → Instr
 truth_instr true = instr.True
@@ -207,7 +212,7 @@ abbrev mutual
   pub multi_code : Multi → Scope → ℕ → ℕ → Placed
   multi_code (tree.vararg p) sc base at = one instr.Rest p
   multi_code (tree.call p f es) sc base at =
-      exp_code f sc base at ++ list_code es p 0 (past (exp_locals f) sc) (base + exp_functions f) (at + exp_size f) ++ one instr.Call p
+      exp_code f sc base at ++ (list_code es p 0 (past (exp_locals f) sc) (base + exp_functions f) (at + exp_size f) ++ one instr.Call p)
   multi_code (tree.method p e n es) sc base at = one (instr.Pack 0) p
   multi_code (tree.mark_all k m) sc base at = multi_code m sc base at ++ mark_at k (multi_place m)
 
@@ -245,13 +250,13 @@ abbrev mutual
   stat_code (tree.scope p b) sc base at brk = block_code b sc base at brk
   stat_code (tree.while p e b) sc base at brk =
       (instr.Jump (at + 2 + block_size b), p) ∷ (instr.Turn, p)
-      ∷ block_code b (past (exp_locals e) sc) base (at + 2) (at + 2 + block_size b + exp_size e + 1)
-      ++ exp_code e sc (base + block_functions b) (at + 2 + block_size b) ++ one (instr.JumpIf (at + 1)) p
+      ∷ (block_code b (past (exp_locals e) sc) base (at + 2) (at + 2 + block_size b + exp_size e + 1)
+      ++ (exp_code e sc (base + block_functions b) (at + 2 + block_size b) ++ one (instr.JumpIf (at + 1)) p))
   stat_code (tree.repeat p b e) sc base at brk =
       (instr.Turn, p)
-      ∷ block_code b sc base (at + 1) (at + 1 + block_size b + exp_size e + 1)
-      ++ exp_code e (record (behind_block b sc) { next = sc.next + block_locals b }) (base + block_functions b) (at + 1 + block_size b)
-      ++ one (instr.JumpIfNot at) p
+      ∷ (block_code b sc base (at + 1) (at + 1 + block_size b + exp_size e + 1)
+      ++ (exp_code e (record (behind_block b sc) { next = sc.next + block_locals b }) (base + block_functions b) (at + 1 + block_size b)
+      ++ one (instr.JumpIfNot at) p))
   stat_code (tree.choose p cs b) sc base at brk =
       clauses_code cs p sc base at (at + clauses_size cs + else_size b) brk
       ++ else_code b (past (clauses_locals cs) sc) (base + clauses_functions cs) (at + clauses_size cs) brk
@@ -262,12 +267,12 @@ abbrev mutual
       let turn : ℕ = second + step_size c + 2 in
       let behind : ℕ = turn + 4 + block_size d + 1 in
       exp_code a (past 1 sc) base at ++ (instr.Bound, place_of a) ∷ (instr.SetSlot sc.free, p)
-      ∷ exp_code b (taken 1 (past (1 + exp_locals a) sc)) (base + exp_functions a) first ++ (instr.Bound, place_of b) ∷ (instr.SetSlot (sc.free + 1), p)
-      ∷ step_code c p (taken 2 (past (1 + exp_locals a + exp_locals b) sc)) (base + exp_functions a + exp_functions b) second ++ (instr.SetSlot (sc.free + 2), p)
+      ∷ (exp_code b (taken 1 (past (1 + exp_locals a) sc)) (base + exp_functions a) first ++ (instr.Bound, place_of b) ∷ (instr.SetSlot (sc.free + 1), p)
+      ∷ (step_code c p (taken 2 (past (1 + exp_locals a + exp_locals b) sc)) (base + exp_functions a + exp_functions b) second ++ (instr.SetSlot (sc.free + 2), p)
       ∷ (instr.ForPrep sc.free behind, step_place c p)
       ∷ (instr.Turn, p) ∷ (instr.GetSlot sc.free, p) ∷ (instr.SetSlot (sc.free + 3), p) ∷ (instr.NewCell (sc.free + 3), p)
-      ∷ block_code d (record (declared 1 (taken 3 sc)) { next = sc.next + (1 + exp_locals a + exp_locals b + step_locals c) }) (base + exp_functions a + exp_functions b + step_functions c) (turn + 4) behind
-      ++ one (instr.ForStep sc.free turn) p
+      ∷ (block_code d (record (declared 1 (taken 3 sc)) { next = sc.next + (1 + exp_locals a + exp_locals b + step_locals c) }) (base + exp_functions a + exp_functions b + step_functions c) (turn + 4) behind
+      ++ one (instr.ForStep sc.free turn) p)))
   -- the slots from the first free one on hold iterator, state and control, and the variables
   stat_code (tree.each p ns es b) sc base at brk =
       let n : ℕ = length ns in
@@ -275,14 +280,14 @@ abbrev mutual
       let test : ℕ = turn + 2 + n + n + block_size b in
       list_code es p 0 (past n sc) base at
       ++ (instr.Spread 3, p) ∷ (instr.SetSlot (sc.free + 2), p) ∷ (instr.SetSlot (sc.free + 1), p) ∷ (instr.SetSlot sc.free, p) ∷ (instr.Jump test, p)
-      ∷ (instr.Turn, p) ∷ (instr.Spread n, p) ∷ begin_locals (sc.free + 3) n p
-      ++ block_code b (record (declared n (taken 3 sc)) { next = sc.next + (n + exps_locals es) }) (base + exps_functions es) (turn + 2 + n + n) (test + 13)
-      ++ iterate_code sc.free turn p (first_place p es)
+      ∷ (instr.Turn, p) ∷ (instr.Spread n, p) ∷ (begin_locals (sc.free + 3) n p
+      ++ (block_code b (record (declared n (taken 3 sc)) { next = sc.next + (n + exps_locals es) }) (base + exps_functions es) (turn + 2 + n + n) (test + 13)
+      ++ iterate_code sc.free turn p (first_place p es)))
   stat_code (tree.define p e f) sc base at brk = exp_code f (past (exp_locals e) sc) base at ++ one (store_instr e sc) p
   stat_code (tree.define_method p e n f) sc base at brk = []
   stat_code (tree.declare_function p n f) sc base at brk =
       (instr.Nil, p) ∷ (instr.SetSlot sc.free, p) ∷ (instr.NewCell sc.free, p)
-      ∷ exp_code f (past 1 (declared 1 sc)) base (at + 3) ++ one (instr.SetCell sc.free) p
+      ∷ (exp_code f (past 1 (declared 1 sc)) base (at + 3) ++ one (instr.SetCell sc.free) p)
   stat_code (tree.declare p ns es) sc base at brk =
       list_code es p 0 (past (length ns) sc) base at ++ (instr.Spread (length ns), p) ∷ begin_locals sc.free (length ns) p
   stat_code (tree.interface p n fs) sc base at brk = []
@@ -292,9 +297,9 @@ abbrev mutual
   clauses_code tree.no_clause p sc base at end brk = []
   clauses_code (tree.clause e b cs) p sc base at end brk =
       exp_code e sc base at ++ (instr.JumpIfNot (at + exp_size e + 1 + block_size b + 1), p)
-      ∷ block_code b (past (exp_locals e) sc) (base + exp_functions e) (at + exp_size e + 1) brk
+      ∷ (block_code b (past (exp_locals e) sc) (base + exp_functions e) (at + exp_size e + 1) brk
       ++ (instr.Jump end, p)
-      ∷ clauses_code cs p (past (exp_locals e + block_locals b) sc) (base + exp_functions e + block_functions b) (at + exp_size e + 1 + block_size b + 1) end brk
+      ∷ clauses_code cs p (past (exp_locals e + block_locals b) sc) (base + exp_functions e + block_functions b) (at + exp_size e + 1 + block_size b + 1) end brk)
 
   pub else_code : Else → Scope → ℕ → ℕ → ℕ → Placed
   else_code tree.no_else sc base at brk = []
@@ -310,7 +315,7 @@ abbrev mutual
 
 -- the parameters become cells, and where the body ends without `return`, nothing is given; a stray `break` goes there
 abbrev pub body_code : ℕ → Block → Pos → Scope → ℕ → Placed
-body_code params b p sc base = new_cells 0 params p ++ block_code b sc base params (params + block_size b) ++ (instr.Pack 0, p) ∷ one instr.Return p
+body_code params b p sc base = new_cells 0 params p ++ (block_code b sc base params (params + block_size b) ++ (instr.Pack 0, p) ∷ one instr.Return p)
 
 abbrev pub proto_of : ℕ → Bool → List Capture → ℕ → Placed → Proto
 proto_of params vararg captures slots code =
@@ -367,9 +372,9 @@ abbrev mutual
   stat_protos (tree.choose p cs b) sc base = clauses_protos cs sc base ++ else_protos b (past (clauses_locals cs) sc) (base + clauses_functions cs)
   stat_protos (tree.count p n a b c d) sc base =
       exp_protos a (past 1 sc) base
-      ++ exp_protos b (taken 1 (past (1 + exp_locals a) sc)) (base + exp_functions a)
-      ++ step_protos c (taken 2 (past (1 + exp_locals a + exp_locals b) sc)) (base + exp_functions a + exp_functions b)
-      ++ block_protos d (record (declared 1 (taken 3 sc)) { next = sc.next + (1 + exp_locals a + exp_locals b + step_locals c) }) (base + exp_functions a + exp_functions b + step_functions c)
+      ++ (exp_protos b (taken 1 (past (1 + exp_locals a) sc)) (base + exp_functions a)
+      ++ (step_protos c (taken 2 (past (1 + exp_locals a + exp_locals b) sc)) (base + exp_functions a + exp_functions b)
+      ++ block_protos d (record (declared 1 (taken 3 sc)) { next = sc.next + (1 + exp_locals a + exp_locals b + step_locals c) }) (base + exp_functions a + exp_functions b + step_functions c)))
   stat_protos (tree.each p ns es b) sc base =
       exps_protos es (past (length ns) sc) base
       ++ block_protos b (record (declared (length ns) (taken 3 sc)) { next = sc.next + (length ns + exps_locals es) }) (base + exps_functions es)
@@ -383,8 +388,8 @@ abbrev mutual
   pub clauses_protos : Clauses → Scope → ℕ → List Proto
   clauses_protos tree.no_clause sc base = []
   clauses_protos (tree.clause e b cs) sc base =
-      exp_protos e sc base ++ block_protos b (past (exp_locals e) sc) (base + exp_functions e)
-      ++ clauses_protos cs (past (exp_locals e + block_locals b) sc) (base + exp_functions e + block_functions b)
+      exp_protos e sc base ++ (block_protos b (past (exp_locals e) sc) (base + exp_functions e)
+      ++ clauses_protos cs (past (exp_locals e + block_locals b) sc) (base + exp_functions e + block_functions b))
 
   pub else_protos : Else → Scope → ℕ → List Proto
   else_protos tree.no_else sc base = []

@@ -1,0 +1,3 @@
+-- The code of a program has its meaning.
+pub mod Lists
+pub mod Lengths
