@@ -1,3 +1,5 @@
 -- The code of a program has its meaning.
 pub mod Lists
 pub mod Lengths
+pub mod Agreement
+pub mod Names
