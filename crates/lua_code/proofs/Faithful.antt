@@ -3,3 +3,4 @@ pub mod Lists
 pub mod Lengths
 pub mod Agreement
 pub mod Names
+pub mod Expressions

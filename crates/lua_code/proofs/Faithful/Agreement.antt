@@ -150,3 +150,23 @@ module _ (code : List Proto) where
     pub moved : (a b : ℕ) (sl : List Slot) (st : List Item) (w : World) (ks : List CodeClosure) → a ≡ b
         → Halts (running (at_work b sl st) s.levels w ks) s.end → Halts (running (at_work a sl st) s.levels w ks) s.end
     moved a b sl st w ks e h = subst (λ z. Halts (running (at_work z sl st) s.levels w ks) s.end) (sym e) h
+
+    -- ---- what a step comes to
+
+    abbrev pub Comes : Next → Type 0
+    Comes (go d) = Halts d s.end
+    Comes (stop e w) = s.end ≡ end_with e w
+    Comes stuck = ⊥
+
+    comes_so : (c : Config) (x : Next) → step code c ≡ x → Comes x → Halts c s.end
+    comes_so c (go d) e h = step_on c d s.end e h
+    comes_so c (stop en w) e h = step_end c s.end en w e h
+    comes_so c stuck e h = absurd h
+
+    pub does : (pc : ℕ) (sl : List Slot) (st : List Item) (w : World) (ks : List CodeClosure) (i : Instr) (p : Pos)
+        → slice_get s.placed pc ≡ Some (i, p) → Comes (act code i p (at_work pc sl st) s.levels w ks) → Halts (running (at_work pc sl st) s.levels w ks) s.end
+    does pc sl st w ks i p h k =
+        comes_so (running (at_work pc sl st) s.levels w ks) (act code i p (at_work pc sl st) s.levels w ks) (ap (λ o. obey code o (at_work pc sl st) s.levels w ks) (fetched pc sl st i p h)) k
+
+    pub comes_by : (x y : Next) → x ≡ y → Comes y → Comes x
+    comes_by x y e h = subst (λ z. Comes z) (sym e) h
