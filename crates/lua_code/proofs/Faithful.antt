@@ -4,3 +4,4 @@ pub mod Lengths
 pub mod Agreement
 pub mod Names
 pub mod Expressions
+pub mod Statements

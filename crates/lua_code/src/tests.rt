@@ -77,10 +77,27 @@ fn code_is_listed(rt: HostRuntime) -> Result<(), Fail> {
     Ok(())
 }
 
+/// The line of an instruction, if there is one.
+fn line_if_there(
+    alloc: Global,
+    code: &Code,
+    function: u64,
+    at: u64,
+) -> Result<Option<Bytes>, NoMemory> {
+    let instrs = match code.functions.get(function as usize) {
+        Some(proto) => &proto.code,
+        None => return Ok(None),
+    };
+    match instrs.get(at as usize) {
+        Some(_) => Ok(Some(line(alloc, code, function, at)?)),
+        None => Ok(None),
+    }
+}
+
 #[test]
 fn one_instruction_is_written(rt: HostRuntime) -> Result<(), Fail> {
     let code = sample(rt.alloc())?;
-    let text = line(rt.alloc(), &code, 0, 2)?;
+    let text = line_if_there(rt.alloc(), &code, 0, 2)?.ok_or("no line")?;
     assert_eq!(rt; text.as_slice(), b"0:2 Str 61ff00".as_slice());
     Ok(())
 }
