@@ -105,3 +105,213 @@ module _ (code : List Proto) (s : Setting code) where
       → ((l : ℕ) (w1 : World) → suc l ≤ m → Alike code l w1 cs ks → Owes code l s.levels s.end K (next w1 cs) → Halts code (running (at_work code s (pc + 1) sl []) s.levels w1 ks) s.end)
       → Owes code m s.levels s.end K (go_on (turn w cs) (λ _. next)) → Halts code (running (at_work code s pc sl []) s.levels w ks) s.end
   turn_ok m pc sl p next K w cs ks h a f debt = does code s pc sl [] w ks instr.Turn p h (turn_at m m pc sl p next K w.turns w cs ks h refl a f debt)
+
+  -- ---- locals that begin
+
+  abbrev pub helds : List Value → List Slot
+  helds vs = map (λ v. slot.Held v) vs
+
+  has_behind : (xs sl : List Slot) (i j : ℕ) (x : Slot) → i < j → HasAt sl j xs → HasAt (slice_set sl i x) j xs
+  has_behind [] sl i j x le h = tt
+  has_behind (y ∷ xs) sl i j x le h = (get_set_behind sl i j x le ∙ h.0, has_behind xs sl i (j + 1) x (Prim.omega (arith, le)) h.1)
+
+  set_slots_ok : (vs : List Value) (at pc : ℕ) (sl : List Slot) (st : List Item) (w : World) (ks : List CodeClosure) (p : Pos) → HasAt s.placed pc (set_slots at (length vs) p) → at + length vs ≤ length sl
+      → ((sl2 : List Slot) → Kept at sl sl2 → HasAt sl2 at (helds vs) → Halts code (running (at_work code s (pc + length vs) sl2 st) s.levels w ks) s.end)
+      → Halts code (running (at_work code s pc sl (row.spread vs st)) s.levels w ks) s.end
+  set_slots_ok [] at pc sl st w ks p has room k = moved code s pc (pc + 0) sl st w ks (Prim.omega arith) (k sl (kept_same at sl) tt)
+  set_slots_ok (v ∷ vs) at pc sl st w ks p has room k =
+      let first : Placed = set_slots (at + 1) (length vs) p in
+      let h : HasAt s.placed (pc + length vs) (one (instr.SetSlot at) p) = has_next s.placed pc (pc + length vs) first (one (instr.SetSlot at) p) (ap (λ z. pc + z) (set_slots_length (length vs) (at + 1) p)) has in
+      set_slots_ok vs (at + 1) pc sl (item.One v ∷ st) w ks p (has_front s.placed pc first (one (instr.SetSlot at) p) has) (Prim.omega (arith, room)) (λ sl2 kept held.
+      let long : length sl2 ≡ length sl = kept.long in
+      let sl3 : List Slot = slice_set sl2 at (slot.Held v) in
+      let kept3 : Kept at sl sl3 = record { long = length_set sl2 at (slot.Held v) ∙ kept.long; low = λ i l. get_set_before sl2 at i (slot.Held v) l ∙ kept.low i (Prim.omega (arith, l)) } in
+      does code s (pc + length vs) sl2 (item.One v ∷ st) w ks (instr.SetSlot at) p h.0
+      (moved code s (pc + length vs + 1) (pc + length (v ∷ vs)) sl3 st w ks (Prim.omega arith)
+      (k sl3 kept3 (get_set sl2 at (slot.Held v) (Prim.omega (arith, room, long)), has_behind (helds vs) sl2 at (at + 1) (slot.Held v) (Prim.omega arith) held))))
+
+  -- the locals are in scope, and nothing else of the environment has changed
+  abbrev pub Declared : ℕ → List (ℕ × ℕ) → ℕ → List ℕ → List Slot → Env → ℕ → List Item → Env → World → List CodeClosure → Type 0
+  Declared d own free captured sl env to st env2 w ks =
+      (sl2 : List Slot) → Kept d sl sl2 → Sees free own captured env2.bound sl2 s.captured → (env2.names ≡ env.names) × (env2.next ≡ env.next) × (env2.rest ≡ env.rest)
+      → Halts code (running (at_work code s to sl2 st) s.levels w ks) s.end
+
+  new_cells_ok : (vs : List Value) (m x at pc : ℕ) (sl : List Slot) (st : List Item) (own : List (ℕ × ℕ)) (captured : List ℕ) (env : Env) (w : World) (cs : List Closure) (ks : List CodeClosure) (p : Pos)
+      → HasAt s.placed pc (new_cells at (length vs) p) → HasAt sl at (helds vs) → Sees at own captured env.bound sl s.captured → at + length vs ≤ length sl → Alike code m w cs ks
+      → Owes code m s.levels s.end (Declared at (in_slots (length vs) x at own) (at + length vs) captured sl env (pc + length vs) st) (declare_all x vs env w cs)
+      → Halts code (running (at_work code s pc sl st) s.levels w ks) s.end
+  new_cells_ok [] m x at pc sl st own captured env w cs ks p has held sees room a debt =
+      moved code s pc (pc + 0) sl st w ks (Prim.omega arith) (debt ks a sl (kept_same at sl) (sees_kept at (at + 0) own captured env.bound sl sl s.captured (Prim.omega arith) (kept_same at sl) sees) (refl, refl, refl))
+  new_cells_ok (v ∷ vs) m x at pc sl st own captured env w cs ks p has held sees room a debt =
+      let c : ℕ = length w.cells in
+      let sl2 : List Slot = slice_set sl at (slot.Cell c) in
+      let kept2 : Kept at sl sl2 = kept_set at at sl (slot.Cell c) (Prim.omega arith) in
+      let env2 : Env = bind x c env in
+      let long : length sl2 ≡ length sl = kept2.long in
+      does code s pc sl st w ks (instr.NewCell at) p has.0
+      (comes_by code s _ _ (ap (λ z. row.value_in z (λ v. row.new_cell at v) p (at_work code s pc sl st) s.levels w ks) held.0)
+      (new_cells_ok vs m (x + 1) (at + 1) (pc + 1) sl2 st ((x, at) ∷ own) captured env2 (with_cell v w) cs ks p has.1 (has_behind (helds vs) sl at (at + 1) (slot.Cell c) (Prim.omega arith) held.1)
+      (refl, Prim.omega arith, get_set sl at (slot.Cell c) (Prim.omega (arith, room)), sees_kept at (at + 1) own captured env.bound sl sl2 s.captured (Prim.omega arith) kept2 sees)
+      (Prim.omega (arith, room, long)) (record { few = a.few; made = a.made })
+      (owes_map code m s.levels s.end (declare_all (x + 1) vs env2 (with_cell v w) cs)
+      (Declared (at + 1) (in_slots (length vs) (x + 1) (at + 1) ((x, at) ∷ own)) (at + 1 + length vs) captured sl2 env2 (pc + 1 + length vs) st)
+      (Declared at (in_slots (length (v ∷ vs)) x at own) (at + length (v ∷ vs)) captured sl env (pc + length (v ∷ vs)) st)
+      (λ env3 w3 ks3 f sl3 kept3 sees3 same.
+      moved code s (pc + 1 + length vs) (pc + length (v ∷ vs)) sl3 st w3 ks3 (Prim.omega arith)
+      (f sl3 (kept_on at (at + 1) sl sl2 sl3 (Prim.omega arith) kept2 kept3) (sees_kept (at + 1 + length vs) (at + length (v ∷ vs)) (in_slots (length vs) (x + 1) (at + 1) ((x, at) ∷ own)) captured env3.bound sl3 sl3 s.captured (Prim.omega arith) (kept_same (at + 1 + length vs) sl3) sees3) same)) debt)))
+
+  -- values on the stack become locals
+  abbrev BeginOk : List Value → ℕ → Type 0
+  BeginOk vs k = (m x at pc : ℕ) (sl : List Slot) (st : List Item) (own : List (ℕ × ℕ)) (captured : List ℕ) (env : Env) (w : World) (cs : List Closure) (ks : List CodeClosure) (p : Pos)
+      → HasAt s.placed pc (begin_locals at k p) → Sees at own captured env.bound sl s.captured → at + k ≤ length sl → Alike code m w cs ks
+      → Owes code m s.levels s.end (Declared at (in_slots k x at own) (at + k) captured sl env (pc + k + k) st) (declare_all x vs env w cs)
+      → Halts code (running (at_work code s pc sl (row.spread vs st)) s.levels w ks) s.end
+
+  begin_here : (vs : List Value) → BeginOk vs (length vs)
+  begin_here vs m x at pc sl st own captured env w cs ks p has sees room a debt =
+      let k : ℕ = length vs in
+      let h : HasAt s.placed (pc + k) (new_cells at k p) = has_next s.placed pc (pc + k) (set_slots at k p) (new_cells at k p) (ap (λ z. pc + z) (set_slots_length k at p)) has in
+      set_slots_ok vs at pc sl st w ks p (has_front s.placed pc (set_slots at k p) (new_cells at k p) has) room (λ sl2 kept held.
+      let long : length sl2 ≡ length sl = kept.long in
+      new_cells_ok vs m x at (pc + k) sl2 st own captured env w cs ks p h held (sees_kept at at own captured env.bound sl sl2 s.captured (Prim.omega arith) kept sees) (Prim.omega (arith, room, long)) a
+      (owes_map code m s.levels s.end (declare_all x vs env w cs)
+      (Declared at (in_slots k x at own) (at + k) captured sl2 env (pc + k + k) st) (Declared at (in_slots k x at own) (at + k) captured sl env (pc + k + k) st)
+      (λ env3 w3 ks3 f sl3 kept3 sees3 same. f sl3 (kept_on at at sl sl2 sl3 (Prim.omega arith) kept kept3) sees3 same) debt))
+
+  adjust_length : (k : ℕ) (vs : List Value) → length (adjust k vs) ≡ k
+  adjust_length zero vs = refl
+  adjust_length (suc k) [] = ap suc (adjust_length k [])
+  adjust_length (suc k) (v ∷ vs) = ap suc (adjust_length k vs)
+
+  pub begin_ok : (k : ℕ) (vs : List Value) → BeginOk (adjust k vs) k
+  begin_ok k vs = subst (λ z. BeginOk (adjust k vs) z) (adjust_length k vs) (begin_here (adjust k vs))
+
+  -- ---- stores
+
+  abbrev spot_in : Exp → Env → Spot
+  spot_in (tree.name p u t) env = spot_of_use (use_of env u) env
+  spot_in (tree.mark k e) env = spot_in e env
+  spot_in e env = nowhere
+
+  abbrev spots_in : Targets → Env → List Spot
+  spots_in tree.no_target env = []
+  spots_in (tree.target e ts) env = spot_in e env ∷ spots_in ts (behind (exp_locals e) env)
+
+  -- the code goes on there
+  abbrev pub Goes : ℕ → List Slot → List Item → Unit {0} → World → List CodeClosure → Type 0
+  Goes to sl st x w ks = Halts code (running (at_work code s to sl st) s.levels w ks) s.end
+
+  written_alike : (c : ℕ) (v : Value) (m : ℕ) (w : World) (cs : List Closure) (ks : List CodeClosure) → Alike code m w cs ks → Alike code m (write_cell (Some c) v w) cs ks
+  written_alike c v m w cs ks a = record { few = a.few; made = a.made }
+
+  write_ok : (x : ℕ) (v : Value) (sc : Scope) (env : Env) (m pc : ℕ) (sl : List Slot) (st : List Item) (w : World) (cs : List Closure) (ks : List CodeClosure) (p : Pos)
+      → Found x sc.own sc.captured env.bound sl s.captured → slice_get s.placed pc ≡ Some (write_local sc x, p) → Alike code m w cs ks
+      → Owes code m s.levels s.end (Goes (pc + 1) sl st) (gives tt (write_cell (cell_of env x) v w) cs) → Halts code (running (at_work code s pc sl (item.One v ∷ st)) s.levels w ks) s.end
+  write_ok x v sc env m pc sl st w cs ks p (in_slot t d f g h) has a k =
+      does code s pc sl (item.One v ∷ st) w ks (instr.SetCell t) p
+      (has ∙ ap (λ o. Some (from_own (λ s. instr.SetCell s) o (from_captured (λ i. instr.SetUp i) instr.Pop (captured_from 0 x sc.captured)), p)) f)
+      (comes_by code s _ _ (ap (λ o. row.cell_in o (λ c. row.write c v) p (at_work code s pc sl st) s.levels w ks) h)
+      (subst (λ z. Owes code m s.levels s.end (Goes (pc + 1) sl st) (gives tt (write_cell z v w) cs)) g k ks (written_alike d v m w cs ks a)))
+  write_ok x v sc env m pc sl st w cs ks p (in_captured i d f g h j) has a k =
+      does code s pc sl (item.One v ∷ st) w ks (instr.SetUp i) p
+      (has ∙ ap (λ o. Some (from_own (λ s. instr.SetCell s) o (from_captured (λ i. instr.SetUp i) instr.Pop (captured_from 0 x sc.captured)), p)) f ∙ ap (λ o. Some (from_captured (λ i. instr.SetUp i) instr.Pop o, p)) g)
+      (comes_by code s _ _ (ap (λ o. row.this_cell o (λ c. row.write c v) p (at_work code s pc sl st) s.levels w ks) j)
+      (subst (λ z. Owes code m s.levels s.end (Goes (pc + 1) sl st) (gives tt (write_cell z v w) cs)) h k ks (written_alike d v m w cs ks a)))
+  write_ok x v sc env m pc sl st w cs ks p (not_found f g h) has a k =
+      does code s pc sl (item.One v ∷ st) w ks instr.Pop p
+      (has ∙ ap (λ o. Some (from_own (λ s. instr.SetCell s) o (from_captured (λ i. instr.SetUp i) instr.Pop (captured_from 0 x sc.captured)), p)) f ∙ ap (λ o. Some (from_captured (λ i. instr.SetUp i) instr.Pop o, p)) g)
+      (subst (λ z. Owes code m s.levels s.end (Goes (pc + 1) sl st) (gives tt (write_cell z v w) cs)) h k ks a)
+
+  use_store_ok : (u : Option Use) (v : Value) (sc : Scope) (env : Env) (m pc : ℕ) (sl : List Slot) (st : List Item) (w : World) (cs : List Closure) (ks : List CodeClosure) (p : Pos)
+      → Sees sc.free sc.own sc.captured env.bound sl s.captured → slice_get s.placed pc ≡ Some (write_use sc u, p) → Alike code m w cs ks
+      → Owes code m s.levels s.end (Goes (pc + 1) sl st) (store (spot_of_use u env) v w cs) → Halts code (running (at_work code s pc sl (item.One v ∷ st)) s.levels w ks) s.end
+  use_store_ok None v sc env m pc sl st w cs ks p sees has a k = does code s pc sl (item.One v ∷ st) w ks instr.Pop p has (k ks a)
+  use_store_ok (Some (means.Local x)) v sc env m pc sl st w cs ks p sees has a k = write_ok x v sc env m pc sl st w cs ks p (found x sc.free sc.own sc.captured env.bound sl s.captured sees) has a k
+  use_store_ok (Some (means.Lib l)) v sc env m pc sl st w cs ks p sees has a k = does code s pc sl (item.One v ∷ st) w ks instr.Pop p has (k ks a)
+
+  pub store_ok : (e : Exp) (v : Value) (sc : Scope) (env : Env) (m pc : ℕ) (sl : List Slot) (st : List Item) (w : World) (cs : List Closure) (ks : List CodeClosure) (p : Pos)
+      → Views sc env sl s.captured s.rest → slice_get s.placed pc ≡ Some (store_instr e sc, p) → Alike code m w cs ks
+      → Owes code m s.levels s.end (Goes (pc + 1) sl st) (store (spot_in e env) v w cs) → Halts code (running (at_work code s pc sl (item.One v ∷ st)) s.levels w ks) s.end
+  store_ok (tree.name q u t) v sc env m pc sl st w cs ks p vw has a k =
+      use_store_ok (use_of env u) v sc env m pc sl st w cs ks p vw.bound (has ∙ ap (λ z. Some (write_use sc (slice_get z.uses u), p)) vw.names) a k
+  store_ok (tree.mark j e) v sc env m pc sl st w cs ks p vw has a k = store_ok e v sc env m pc sl st w cs ks p vw has a k
+  store_ok e v sc env m pc sl st w cs ks p vw has a k = does code s pc sl (item.One v ∷ st) w ks instr.Pop p has (k ks a)
+
+  pub stores_ok : (ts : Targets) (vs : List Value) → length vs ≡ target_count ts → (sc : Scope) (env : Env) (m pc : ℕ) (sl : List Slot) (st : List Item) (w : World) (cs : List Closure) (ks : List CodeClosure) (p : Pos)
+      → HasAt s.placed pc (stores ts p sc) → Views sc env sl s.captured s.rest → Alike code m w cs ks
+      → Owes code m s.levels s.end (Goes (pc + targets_size ts) sl st) (store_all (spots_in ts env) vs w cs) → Halts code (running (at_work code s pc sl (row.spread vs st)) s.levels w ks) s.end
+  stores_ok tree.no_target [] e sc env m pc sl st w cs ks p has vw a k = moved code s pc (pc + 0) sl st w ks (Prim.omega arith) (k ks a)
+  stores_ok tree.no_target (v ∷ vs) e sc env m pc sl st w cs ks p has vw a k = absurd (Prim.omega (arith, e))
+  stores_ok (tree.target t ts) [] e sc env m pc sl st w cs ks p has vw a k = absurd (Prim.omega (arith, e))
+  stores_ok (tree.target t ts) (v ∷ vs) e sc env m pc sl st w cs ks p has vw a k =
+      let sc2 : Scope = past (exp_locals t) sc in
+      let h : HasAt s.placed (pc + targets_size ts) (one (store_instr t sc) p) = has_next s.placed pc (pc + targets_size ts) (stores ts p sc2) (one (store_instr t sc) p) (ap (λ z. pc + z) (stores_length ts p sc2)) has in
+      stores_ok ts vs (Prim.omega (arith, e)) sc2 (behind (exp_locals t) env) m pc sl (item.One v ∷ st) w cs ks p (has_front s.placed pc (stores ts p sc2) (one (store_instr t sc) p) has) (views_past (exp_locals t) sc env sl s.captured s.rest vw) a
+      (owes_then code m s.levels s.end (store_all (spots_in ts (behind (exp_locals t) env)) vs w cs) (λ _. store (spot_in t env) v) (Goes (pc + targets_size ts) sl (item.One v ∷ st)) (Goes (pc + (targets_size ts + 1)) sl st)
+      (λ x w1 cs1 ks1 a1 k1. store_ok t v sc env m (pc + targets_size ts) sl st w1 cs1 ks1 p vw h.0 a1
+      (owes_map code m s.levels s.end (store (spot_in t env) v w1 cs1) (Goes (pc + targets_size ts + 1) sl st) (Goes (pc + (targets_size ts + 1)) sl st)
+      (λ y w2 ks2 f. moved code s (pc + targets_size ts + 1) (pc + (targets_size ts + 1)) sl st w2 ks2 (Prim.omega arith) f) k1)) k)
+
+-- ---- statements
+
+module _ (code : List Proto) (n c : ℕ) (call : Caller) (loop : Looper) (call_ok : CallOk code n c call) (s : Setting code) (deep : calls_at_work s.levels + 1 + c ≡ limit) where
+  target_pure : (e : Exp) (env : Env) (w : World) (cs : List Closure) → meant.eval_target call loop e env w cs ≡ gives (spot_in code s e env) w cs
+  target_pure (tree.name p u t) env w cs = refl
+  target_pure (tree.mark k e) env w cs = target_pure e env w cs
+  target_pure e env w cs = refl
+
+  targets_pure : (ts : Targets) (env : Env) (w : World) (cs : List Closure) → meant.eval_targets call loop ts env w cs ≡ gives (spots_in code s ts env) w cs
+  targets_pure tree.no_target env w cs = refl
+  targets_pure (tree.target e ts) env w cs =
+      ap (λ o. go_on o (λ spot. meant.eval_targets call loop ts (behind (exp_locals e) env) >>= (λ spots. give (spot ∷ spots)))) (target_pure e env w cs)
+      ∙ ap (λ o. go_on o (λ spots. give (spot_in code s e env ∷ spots))) (targets_pure ts (behind (exp_locals e) env) w cs)
+
+  spots_count : (ts : Targets) (env : Env) → length (spots_in code s ts env) ≡ target_count ts
+  spots_count tree.no_target env = refl
+  spots_count (tree.target e ts) env = let h : length (spots_in code s ts (behind (exp_locals e) env)) ≡ target_count ts = spots_count ts (behind (exp_locals e) env) in Prim.omega (arith, h)
+
+  abbrev pub StatOk : Stat → Type 0
+  StatOk x = (m : ℕ) → m ≤ n → (sc : Scope) (base pc brk : ℕ) (sl : List Slot) (env : Env) (w : World) (cs : List Closure) (ks : List CodeClosure)
+      → HasAt s.placed pc (stat_code x sc base pc brk) → HasAt code base (stat_protos x sc base) → Views sc env sl s.captured s.rest → sc.free + stat_slots x ≤ length sl → Alike code m w cs ks
+      → OwesFlow code s m sc.free (in_slots (stat_declares x) sc.next sc.free sc.own) (sc.free + stat_declares x) sc.captured sl (pc + stat_size x) brk (meant.exec call loop x env w cs)
+      → Halts code (running (at_work code s pc sl []) s.levels w ks) s.end
+
+  abbrev pub BlockOk : Block → Type 0
+  BlockOk x = (m : ℕ) → m ≤ n → (sc : Scope) (base pc brk : ℕ) (sl : List Slot) (env : Env) (w : World) (cs : List Closure) (ks : List CodeClosure)
+      → HasAt s.placed pc (block_code x sc base pc brk) → HasAt code base (block_protos x sc base) → Views sc env sl s.captured s.rest → sc.free + block_slots x ≤ length sl → Alike code m w cs ks
+      → OwesFlow code s m sc.free (behind_block x sc).own (behind_block x sc).free sc.captured sl (pc + block_size x) brk (meant.exec_all call loop x env w cs)
+      → Halts code (running (at_work code s pc sl []) s.levels w ks) s.end
+
+  finish_ok : BlockOk tree.finish
+  finish_ok m le sc base pc brk sl env w cs ks has protos v room a debt = moved code s pc (pc + 0) sl [] w ks (Prim.omega arith) (debt ks a sl (kept_same sc.free sl) v.bound)
+
+  returns_ok : (p : Pos) (es : Exps) → BlockOk (tree.returns p es)
+  returns_ok p es m le sc base pc brk sl env w cs ks has protos v room a debt =
+      let ce : Placed = list_code es p 0 sc base pc in
+      let h : HasAt s.placed (pc + exps_size es) (one instr.Return p) = has_next s.placed pc (pc + exps_size es) ce (one instr.Return p) (ap (λ z. pc + z) (list_length es p 0 sc base pc)) has in
+      list_sim code n c call loop call_ok s deep es m le p 0 [] refl sc base pc sl [] env w cs ks (has_front s.placed pc ce (one instr.Return p) has) protos v room a
+      (owes_then code m s.levels s.end (meant.eval_all call loop es env w cs) (λ vs. give (returned vs)) (Joined code n c call loop call_ok s deep sc.free sl [] [] (pc + exps_size es)) _
+      (λ vs w1 cs1 ks1 a1 k1 sl2 kept. does code s (pc + exps_size es) sl2 (item.Many vs ∷ []) w1 ks1 instr.Return p h.0 (k1 ks1 a1)) debt)
+
+  next_ok : (x : Stat) (b : Block) → StatOk x → BlockOk b → BlockOk (tree.next x b)
+  next_ok x b sim sims m le sc base pc brk sl env w cs ks has protos v room a debt =
+      let sb : Scope = behind_stat x sc in
+      let cx : Placed = stat_code x sc base pc brk in
+      let cb : Placed = block_code b sb (base + stat_functions x) (pc + stat_size x) brk in
+      let h : HasAt s.placed (pc + stat_size x) cb = has_next s.placed pc (pc + stat_size x) cx cb (ap (λ z. pc + z) (stat_length x sc base pc brk)) has in
+      let pb : List Proto = block_protos b sb (base + stat_functions x) in
+      let q : HasAt code (base + stat_functions x) pb = has_next code base (base + stat_functions x) (stat_protos x sc base) pb (ap (λ z. base + z) (stat_count x sc base)) protos in
+      sim m le sc base pc brk sl env w cs ks (has_front s.placed pc cx cb has) (has_front code base (stat_protos x sc base) pb protos) v (Prim.omega (arith, room)) a
+      (owes_then code m s.levels s.end (meant.exec call loop x env w cs) _
+        (Flows code s sc.free (in_slots (stat_declares x) sc.next sc.free sc.own) (sc.free + stat_declares x) sc.captured sl (pc + stat_size x) brk)
+        (Flows code s sc.free (behind_block b sb).own (behind_block b sb).free sc.captured sl (pc + (stat_size x + block_size b)) brk)
+      (λ flow w1 cs1 ks1 a1 k1.
+      then_flows code s m sc.free (in_slots (stat_declares x) sc.next sc.free sc.own) (behind_block b sb).own (sc.free + stat_declares x) (behind_block b sb).free sc.captured sl (pc + stat_size x) (pc + (stat_size x + block_size b)) brk
+        (λ inner. meant.exec_all call loop b (behind (stat_locals x) (with_bound inner env))) flow w1 cs1 ks1 a1
+      (λ inner k2 sl2 kept sees.
+      let long : length sl2 ≡ length sl = kept.long in
+      sims m le sb (base + stat_functions x) (pc + stat_size x) brk sl2 (behind (stat_locals x) (with_bound inner env)) w1 cs1 ks1 h q
+      (record { names = v.names; next = ap (λ z. z + stat_locals x) v.next; more = v.more; bound = sees }) (Prim.omega (arith, room, long)) a1
+      (owes_flow_on code s m sc.free (sc.free + stat_declares x) (behind_block b sb).own (behind_block b sb).free sc.captured sl sl2 (pc + stat_size x + block_size b) (pc + (stat_size x + block_size b)) brk brk
+        (Prim.omega arith) (Prim.omega arith) refl kept (meant.exec_all call loop b (behind (stat_locals x) (with_bound inner env)) w1 cs1) k2)) k1)
+      debt)
