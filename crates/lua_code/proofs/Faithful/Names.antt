@@ -28,6 +28,9 @@ kept_set d i sl s le = record { long = length_set sl i s; low = λ j h. get_set_
 pub kept_on : (c d : ℕ) (a b e : List Slot) → c ≤ d → Kept c a b → Kept d b e → Kept c a e
 kept_on c d a b e le h k = record { long = k.long ∙ h.long; low = λ i l. k.low i (Prim.omega (arith, l, le)) ∙ h.low i l }
 
+pub kept_back : (d : ℕ) (a b : List Slot) → Kept d a b → Kept d b a
+kept_back d a b h = record { long = sym h.long; low = λ i l. sym (h.low i l) }
+
 -- own locals in slots below d, and the others among the captured cells
 abbrev pub Sees : ℕ → List (ℕ × ℕ) → List ℕ → Bound → List Slot → List ℕ → Type 0
 Sees d [] captured bound sl up = (keys_of bound ≡ captured) × (map (λ b. b.1) bound ≡ up)

@@ -1,5 +1,6 @@
 -- The code of a statement does what the statement means.
-use Rattle.std.proofs.Common.{◌≡◌, refl, ap, subst, sym, ◌∙◌, ℕ, zero, suc, ◌+◌, ◌-◌, ◌<◌, ◌≤◌, max, nat_eq, ℤ, pos, negsuc, ◌+ℤ◌, Bool, true, false, not, List, [], ◌∷◌, ◌++◌, length, map, drop, slice_get, slice_set, Option, Some, None, codes, arith}
+use Rattle.std.proofs.Common.{◌≡◌, refl, ap, subst, sym, ◌∙◌, ℕ, zero, suc, ◌+◌, ◌-◌, ◌<◌, ◌≤◌, max, nat_eq, cond, ℤ, pos, negsuc, ◌+ℤ◌, Bool, true, false, not, List, [], ◌∷◌, ◌++◌, length, map, drop, slice_get, slice_set, Option, Some, None, codes, arith}
+use Rattle.std.specs.Cmp.{unsigned_Decides}
 use Rattle.std.specs.Map.{lookup, keys_of}
 use Rattle.tl_base.specs.declared.place.Pos.{Pos}
 use Rattle.tl_base.specs.declared.place.ModuleKind.{ModuleKind}
@@ -38,7 +39,7 @@ use Rattle.lua_code.specs.Generated.{Placed, one, Scope, past, taken, in_slots, 
 use Rattle.lua_code.proofs.Faithful.Lists.{HasAt, has_front, has_next, get_set, get_set_before, get_set_behind, length_set}
 use Rattle.lua_code.proofs.Faithful.Lengths.{exp_length, multi_length, list_length, step_length, set_slots_length, new_cells_length, begin_length, stores_length, stat_length, clauses_length, else_length, block_length, exp_count, multi_count, exps_count, step_count, stat_count, clauses_count, else_count, block_count}
 use Rattle.lua_code.proofs.Faithful.Agreement.{Halts, Alike, Owes, Given, Setting, end_with, owes_then, owes_map, owes_fewer, at_work, Comes, does, comes_by, moved}
-use Rattle.lua_code.proofs.Faithful.Names.{Kept, kept_same, kept_set, kept_on, Sees, sees_kept, Found, in_slot, in_captured, nowhere as not_found, found}
+use Rattle.lua_code.proofs.Faithful.Names.{Kept, kept_same, kept_set, kept_on, kept_back, Sees, sees_kept, Found, in_slot, in_captured, nowhere as not_found, found}
 use Rattle.lua_code.proofs.Faithful.Expressions.{CallOk, Views, views_past, views_taken, views_kept, Pushed, Listed, Joined, ExpOk, ListOk, unrev, exp_sim, multi_sim, list_sim}
 
 module _ (code : List Proto) (s : Setting code) where
@@ -81,13 +82,15 @@ module _ (code : List Proto) (s : Setting code) where
   leave_flows m d own1 own2 free1 free2 captured sl to brk around sees (returned vs) w cs ks a h = h ks a
 
   -- after the body of a loop, which breaks to the loop's end
-  loop_flows : (m d : ℕ) (own1 own2 : List (ℕ × ℕ)) (free1 free2 : ℕ) (captured : List ℕ) (sl : List Slot) (to1 to2 brk1 brk2 : ℕ) (around : Bound) → ((sl2 : List Slot) → Kept d sl sl2 → Sees free2 own2 captured around sl2 s.captured) → brk1 ≡ to2
+  loop_flows : (m d1 d2 : ℕ) (own1 own2 : List (ℕ × ℕ)) (free1 free2 : ℕ) (captured : List ℕ) (sl1 sl2 : List Slot) (to1 to2 brk1 brk2 : ℕ) (around : Bound) → d2 ≤ d1 → Kept d2 sl2 sl1
+      → ((sl3 : List Slot) → Kept d2 sl2 sl3 → Sees free2 own2 captured around sl3 s.captured) → brk1 ≡ to2
       → (more : Bound → Act Flow) (flow : Flow) (w : World) (cs : List Closure) (ks : List CodeClosure) → Alike code m w cs ks
-      → ((inner : Bound) → OwesFlow m d own2 free2 captured sl to2 brk2 (more inner w cs) → Flows d own1 free1 captured sl to1 brk1 (normal inner) w ks)
-      → OwesFlow m d own2 free2 captured sl to2 brk2 (next_turn around flow more w cs) → Flows d own1 free1 captured sl to1 brk1 flow w ks
-  loop_flows m d own1 own2 free1 free2 captured sl to1 to2 brk1 brk2 around sees e more (normal inner) w cs ks a f h = f inner h
-  loop_flows m d own1 own2 free1 free2 captured sl to1 to2 brk1 brk2 around sees e more broken w cs ks a f h = λ sl2 kept. moved code s brk1 to2 sl2 [] w ks e (h ks a sl2 kept (sees sl2 kept))
-  loop_flows m d own1 own2 free1 free2 captured sl to1 to2 brk1 brk2 around sees e more (returned vs) w cs ks a f h = h ks a
+      → ((inner : Bound) → OwesFlow m d2 own2 free2 captured sl2 to2 brk2 (more inner w cs) → Flows d1 own1 free1 captured sl1 to1 brk1 (normal inner) w ks)
+      → OwesFlow m d2 own2 free2 captured sl2 to2 brk2 (next_turn around flow more w cs) → Flows d1 own1 free1 captured sl1 to1 brk1 flow w ks
+  loop_flows m d1 d2 own1 own2 free1 free2 captured sl1 sl2 to1 to2 brk1 brk2 around le kept sees e more (normal inner) w cs ks a f h = f inner h
+  loop_flows m d1 d2 own1 own2 free1 free2 captured sl1 sl2 to1 to2 brk1 brk2 around le kept sees e more broken w cs ks a f h =
+      λ sl3 kept3. moved code s brk1 to2 sl3 [] w ks e (h ks a sl3 (kept_on d2 d1 sl2 sl1 sl3 le kept kept3) (sees sl3 (kept_on d2 d1 sl2 sl1 sl3 le kept kept3)))
+  loop_flows m d1 d2 own1 own2 free1 free2 captured sl1 sl2 to1 to2 brk1 brk2 around le kept sees e more (returned vs) w cs ks a f h = h ks a
 
   -- a turn of a loop, which is taken or cuts the run
   turn_at : (m m1 : ℕ) (pc : ℕ) (sl : List Slot) (p : Pos) (next : Act Flow) (K : Flow → World → List CodeClosure → Type 0) (t : ℕ) (w : World) (cs : List Closure) (ks : List CodeClosure) → slice_get s.placed pc ≡ Some (instr.Turn, p)
@@ -252,9 +255,87 @@ module _ (code : List Proto) (s : Setting code) where
       (owes_map code m s.levels s.end (store (spot_in t env) v w1 cs1) (Goes (pc + targets_size ts + 1) sl st) (Goes (pc + (targets_size ts + 1)) sl st)
       (λ y w2 ks2 f. moved code s (pc + targets_size ts + 1) (pc + (targets_size ts + 1)) sl st w2 ks2 (Prim.omega arith) f) k1)) k)
 
+-- ---- loops, from where their further turns begin
+
+module _ (code : List Proto) (s : Setting code) where
+  abbrev pub WhileOk : ℕ → Pos → Exp → Block → (Env → Act Flow) → Type 0
+  WhileOk m p e b run = (sc : Scope) (base pc brk : ℕ) (sl : List Slot) (env : Env) (w : World) (cs : List Closure) (ks : List CodeClosure)
+      → HasAt s.placed pc (stat_code (tree.while p e b) sc base pc brk) → HasAt code base (stat_protos (tree.while p e b) sc base) → Views sc env sl s.captured s.rest → sc.free + stat_slots (tree.while p e b) ≤ length sl → Alike code m w cs ks
+      → OwesFlow code s m sc.free sc.own (sc.free + 0) sc.captured sl (pc + stat_size (tree.while p e b)) brk (run env w cs)
+      → Halts code (running (at_work code s (pc + 2 + block_size b) sl []) s.levels w ks) s.end
+
+  abbrev pub RepeatOk : ℕ → Pos → Block → Exp → (Env → Act Flow) → Type 0
+  RepeatOk m p b e run = (sc : Scope) (base pc brk : ℕ) (sl : List Slot) (env : Env) (w : World) (cs : List Closure) (ks : List CodeClosure)
+      → HasAt s.placed pc (stat_code (tree.repeat p b e) sc base pc brk) → HasAt code base (stat_protos (tree.repeat p b e) sc base) → Views sc env sl s.captured s.rest → sc.free + stat_slots (tree.repeat p b e) ≤ length sl → Alike code m w cs ks
+      → OwesFlow code s m sc.free sc.own (sc.free + 0) sc.captured sl (pc + stat_size (tree.repeat p b e)) brk (run env w cs)
+      → Halts code (running (at_work code s pc sl []) s.levels w ks) s.end
+
+  -- the body of a loop sees its variables
+  abbrev pub loop_scope : ℕ → ℕ → Scope → Scope
+  loop_scope count next sc = record (declared count (taken 3 sc)) { next = next }
+
+  abbrev pub count_code : Pos → Scope → Block → ℕ → ℕ → ℕ → Placed
+  count_code p sc b next base turn =
+      (instr.Turn, p) ∷ (instr.GetSlot sc.free, p) ∷ (instr.SetSlot (sc.free + 3), p) ∷ (instr.NewCell (sc.free + 3), p)
+      ∷ (block_code b (loop_scope 1 next sc) base (turn + 4) (turn + 4 + block_size b + 1) ++ one (instr.ForStep sc.free turn) p)
+
+  -- what a loop with three hidden slots sees from outside
+  pub record Around (sc : Scope) (x next : ℕ) (env : Env) (sl : List Slot) : Type 0 where
+    pub names : sc.names ≡ env.names
+    pub number : x ≡ sc.next
+    pub after : next ≡ env.next
+    pub more : env.rest ≡ s.rest
+    pub bound : Sees sc.free sc.own sc.captured env.bound sl s.captured
+
+  pub record Hidden (sc : Scope) (u v t : Value) (sl : List Slot) : Type 0 where
+    pub first : slice_get sl sc.free ≡ Some (slot.Held u)
+    pub second : slice_get sl (sc.free + 1) ≡ Some (slot.Held v)
+    pub third : slice_get sl (sc.free + 2) ≡ Some (slot.Held t)
+
+  abbrev pub CountOk : ℕ → ℕ → ℤ → ℤ → ℤ → Block → (Env → Act Flow) → Type 0
+  CountOk m x i limit step b run = (old : ℤ) → i ≡ old +ℤ step → (p : Pos) (sc : Scope) (base turn next brk : ℕ) (sl : List Slot) (env : Env) (w : World) (cs : List Closure) (ks : List CodeClosure)
+      → HasAt s.placed turn (count_code p sc b next base turn) → HasAt code base (block_protos b (loop_scope 1 next sc) base) → Around sc x next env sl → Hidden sc (value.Int old) (value.Int limit) (value.Int step) sl
+      → sc.free + (4 + block_slots b) ≤ length sl → Alike code m w cs ks
+      → OwesFlow code s m sc.free sc.own (sc.free + 0) sc.captured sl (turn + 4 + block_size b + 1) brk (run env w cs)
+      → Halts code (running (at_work code s (turn + 4 + block_size b) sl []) s.levels w ks) s.end
+
+  abbrev pub each_code : Pos → Pos → Scope → Block → ℕ → ℕ → ℕ → ℕ → Placed
+  each_code p q sc b k next base turn =
+      (instr.Turn, p) ∷ (instr.Spread k, p) ∷ (begin_locals (sc.free + 3) k p
+      ++ (block_code b (loop_scope k next sc) base (turn + 2 + k + k) (turn + 2 + k + k + block_size b + 13) ++ iterate_code sc.free turn p q))
+
+  abbrev pub EachOk : ℕ → Pos → ℕ → ℕ → Value → Value → Value → Block → (Env → Act Flow) → Type 0
+  EachOk m q x k iterator state control b run = (p : Pos) (sc : Scope) (base turn next brk : ℕ) (sl : List Slot) (env : Env) (w : World) (cs : List Closure) (ks : List CodeClosure)
+      → HasAt s.placed turn (each_code p q sc b k next base turn) → HasAt code base (block_protos b (loop_scope k next sc) base) → Around sc x next env sl → Hidden sc iterator state control sl
+      → sc.free + (3 + k + block_slots b) ≤ length sl → Alike code m w cs ks
+      → OwesFlow code s m sc.free sc.own (sc.free + 0) sc.captured sl (turn + 2 + k + k + block_size b + 13) brk (run env w cs)
+      → Halts code (running (at_work code s (turn + 2 + k + k + block_size b) sl []) s.levels w ks) s.end
+
+  -- what is left of each loop does what it means
+  pub record LoopOk (n : ℕ) (loop : Looper) : Type 0 where
+    pub whiles : (m : ℕ) → m < n → (p : Pos) (e : Exp) (b : Block) → WhileOk m p e b (loop (while_again p e b))
+    pub repeats : (m : ℕ) → m < n → (p : Pos) (b : Block) (e : Exp) → RepeatOk m p b e (loop (repeat_again p b e))
+    pub counts : (m : ℕ) → m < n → (x : ℕ) (i limit step : ℤ) (b : Block) → CountOk m x i limit step b (loop (counting x i limit step b))
+    pub eaches : (m : ℕ) → m < n → (q : Pos) (x k : ℕ) (iterator state control : Value) (b : Block) → EachOk m q x k iterator state control b (loop (iterating q x k iterator state control b))
+
 -- ---- statements
 
-module _ (code : List Proto) (n c : ℕ) (call : Caller) (loop : Looper) (call_ok : CallOk code n c call) (s : Setting code) (deep : calls_at_work s.levels + 1 + c ≡ limit) where
+names_behind : (b : Block) (sc : Scope) → (behind_block b sc).names ≡ sc.names
+names_behind tree.finish sc = refl
+names_behind (tree.returns p es) sc = refl
+names_behind (tree.next x b) sc = names_behind b (behind_stat x sc)
+
+captured_behind : (b : Block) (sc : Scope) → (behind_block b sc).captured ≡ sc.captured
+captured_behind tree.finish sc = refl
+captured_behind (tree.returns p es) sc = refl
+captured_behind (tree.next x b) sc = captured_behind b (behind_stat x sc)
+
+free_behind : (b : Block) (sc : Scope) → (behind_block b sc).free ≡ sc.free + block_declares b
+free_behind tree.finish sc = Prim.omega arith
+free_behind (tree.returns p es) sc = Prim.omega arith
+free_behind (tree.next x b) sc = let h : (behind_block b (behind_stat x sc)).free ≡ sc.free + stat_declares x + block_declares b = free_behind b (behind_stat x sc) in Prim.omega (arith, h)
+
+module _ (code : List Proto) (n c : ℕ) (call : Caller) (loop : Looper) (call_ok : CallOk code n c call) (s : Setting code) (deep : calls_at_work s.levels + 1 + c ≡ limit) (loop_ok : LoopOk code s n loop) where
   target_pure : (e : Exp) (env : Env) (w : World) (cs : List Closure) → meant.eval_target call loop e env w cs ≡ gives (spot_in code s e env) w cs
   target_pure (tree.name p u t) env w cs = refl
   target_pure (tree.mark k e) env w cs = target_pure e env w cs
@@ -303,15 +384,311 @@ module _ (code : List Proto) (n c : ℕ) (call : Caller) (loop : Looper) (call_o
       let q : HasAt code (base + stat_functions x) pb = has_next code base (base + stat_functions x) (stat_protos x sc base) pb (ap (λ z. base + z) (stat_count x sc base)) protos in
       sim m le sc base pc brk sl env w cs ks (has_front s.placed pc cx cb has) (has_front code base (stat_protos x sc base) pb protos) v (Prim.omega (arith, room)) a
       (owes_then code m s.levels s.end (meant.exec call loop x env w cs) _
-        (Flows code s sc.free (in_slots (stat_declares x) sc.next sc.free sc.own) (sc.free + stat_declares x) sc.captured sl (pc + stat_size x) brk)
-        (Flows code s sc.free (behind_block b sb).own (behind_block b sb).free sc.captured sl (pc + (stat_size x + block_size b)) brk)
+      (Flows code s sc.free (in_slots (stat_declares x) sc.next sc.free sc.own) (sc.free + stat_declares x) sc.captured sl (pc + stat_size x) brk)
+      (Flows code s sc.free (behind_block b sb).own (behind_block b sb).free sc.captured sl (pc + (stat_size x + block_size b)) brk)
       (λ flow w1 cs1 ks1 a1 k1.
       then_flows code s m sc.free (in_slots (stat_declares x) sc.next sc.free sc.own) (behind_block b sb).own (sc.free + stat_declares x) (behind_block b sb).free sc.captured sl (pc + stat_size x) (pc + (stat_size x + block_size b)) brk
-        (λ inner. meant.exec_all call loop b (behind (stat_locals x) (with_bound inner env))) flow w1 cs1 ks1 a1
+      (λ inner. meant.exec_all call loop b (behind (stat_locals x) (with_bound inner env))) flow w1 cs1 ks1 a1
       (λ inner k2 sl2 kept sees.
       let long : length sl2 ≡ length sl = kept.long in
       sims m le sb (base + stat_functions x) (pc + stat_size x) brk sl2 (behind (stat_locals x) (with_bound inner env)) w1 cs1 ks1 h q
       (record { names = v.names; next = ap (λ z. z + stat_locals x) v.next; more = v.more; bound = sees }) (Prim.omega (arith, room, long)) a1
       (owes_flow_on code s m sc.free (sc.free + stat_declares x) (behind_block b sb).own (behind_block b sb).free sc.captured sl sl2 (pc + stat_size x + block_size b) (pc + (stat_size x + block_size b)) brk brk
-        (Prim.omega arith) (Prim.omega arith) refl kept (meant.exec_all call loop b (behind (stat_locals x) (with_bound inner env)) w1 cs1) k2)) k1)
+      (Prim.omega arith) (Prim.omega arith) refl kept (meant.exec_all call loop b (behind (stat_locals x) (with_bound inner env)) w1 cs1) k2)) k1)
       debt)
+
+  -- where nothing is declared, the code goes on with the locals as they are
+  stays : (m : ℕ) (sc : Scope) (env : Env) (sl sl2 : List Slot) (to brk : ℕ) (w : World) (cs : List Closure) (ks : List CodeClosure) → Views sc env sl s.captured s.rest → Kept sc.free sl sl2 → Alike code m w cs ks
+      → OwesFlow code s m sc.free sc.own (sc.free + 0) sc.captured sl to brk (gives (normal env.bound) w cs) → Halts code (running (at_work code s to sl2 []) s.levels w ks) s.end
+  stays m sc env sl sl2 to brk w cs ks v kept a debt = debt ks a sl2 kept (sees_kept sc.free (sc.free + 0) sc.own sc.captured env.bound sl sl2 s.captured (Prim.omega arith) kept v.bound)
+
+  around_seen : (sc : Scope) (env : Env) (sl : List Slot) → Views sc env sl s.captured s.rest → (sl2 : List Slot) → Kept sc.free sl sl2 → Sees (sc.free + 0) sc.own sc.captured env.bound sl2 s.captured
+  around_seen sc env sl v sl2 kept = sees_kept sc.free (sc.free + 0) sc.own sc.captured env.bound sl sl2 s.captured (Prim.omega arith) kept v.bound
+
+  nothing_ok : (m : ℕ) (sc : Scope) (pc brk : ℕ) (sl : List Slot) (env : Env) (w : World) (cs : List Closure) (ks : List CodeClosure) → Views sc env sl s.captured s.rest → Alike code m w cs ks
+      → OwesFlow code s m sc.free sc.own (sc.free + 0) sc.captured sl (pc + 0) brk (gives (normal env.bound) w cs) → Halts code (running (at_work code s pc sl []) s.levels w ks) s.end
+  nothing_ok m sc pc brk sl env w cs ks v a debt = moved code s pc (pc + 0) sl [] w ks (Prim.omega arith) (stays m sc env sl sl (pc + 0) brk w cs ks v (kept_same sc.free sl) a debt)
+
+  assign_ok : (p : Pos) (ts : Targets) (es : Exps) → StatOk (tree.assign p ts es)
+  assign_ok p ts es m le sc base pc brk sl env w cs ks has protos v room a debt =
+      let spots : List Spot = spots_in code s ts env in
+      let sl_end : ℕ = pc + (exps_size es + 1 + targets_size ts) in
+      let ce : Placed = list_code es p 0 (past (targets_locals ts) sc) base pc in
+      let end : Placed = (instr.Spread (target_count ts), p) ∷ stores ts p sc in
+      let h : HasAt s.placed (pc + exps_size es) end = has_next s.placed pc (pc + exps_size es) ce end (ap (λ z. pc + z) (list_length es p 0 (past (targets_locals ts) sc) base pc)) has in
+      let here : OwesFlow code s m sc.free sc.own (sc.free + 0) sc.captured sl sl_end brk (go_on (meant.eval_all call loop es (behind (targets_locals ts) env) w cs) (λ vs. store_all spots (adjust (length spots) vs) >> give (normal env.bound))) =
+      subst (λ o. OwesFlow code s m sc.free sc.own (sc.free + 0) sc.captured sl sl_end brk (go_on o (λ spots. meant.eval_all call loop es (behind (targets_locals ts) env) >>= (λ vs. store_all spots (adjust (length spots) vs) >> give (normal env.bound))))) (targets_pure ts env w cs) debt in
+      list_sim code n c call loop call_ok s deep es m le p 0 [] refl (past (targets_locals ts) sc) base pc sl [] (behind (targets_locals ts) env) w cs ks (has_front s.placed pc ce end has) protos
+      (views_past (targets_locals ts) sc env sl s.captured s.rest v) room a
+      (owes_then code m s.levels s.end (meant.eval_all call loop es (behind (targets_locals ts) env) w cs) _ (Joined code n c call loop call_ok s deep sc.free sl [] [] (pc + exps_size es))
+      (Flows code s sc.free sc.own (sc.free + 0) sc.captured sl sl_end brk)
+      (λ vs w1 cs1 ks1 a1 k1 sl2 kept.
+      does code s (pc + exps_size es) sl2 (item.Many vs ∷ []) w1 ks1 (instr.Spread (target_count ts)) p h.0
+      (subst (λ z. Halts code (running (at_work code s (pc + exps_size es + 1) sl2 (row.spread (adjust z vs) [])) s.levels w1 ks1) s.end) (spots_count ts env)
+      (stores_ok code s ts (adjust (length spots) vs) (adjust_length code s (length spots) vs ∙ spots_count ts env) sc env m (pc + exps_size es + 1) sl2 [] w1 cs1 ks1 p h.1 (views_kept sc env sl sl2 s.captured s.rest kept v) a1
+      (owes_then code m s.levels s.end (store_all spots (adjust (length spots) vs) w1 cs1) (λ _. give (normal env.bound)) (Goes code s (pc + exps_size es + 1 + targets_size ts) sl2 []) (Flows code s sc.free sc.own (sc.free + 0) sc.captured sl sl_end brk)
+      (λ x w2 cs2 ks2 a2 k2.
+      moved code s (pc + exps_size es + 1 + targets_size ts) sl_end sl2 [] w2 ks2 (Prim.omega arith) (stays m sc env sl sl2 sl_end brk w2 cs2 ks2 v kept a2 k2)) k1))))
+      here)
+
+  run_ok : (p : Pos) (e : Exp) → StatOk (tree.run p e)
+  run_ok p e m le sc base pc brk sl env w cs ks has protos v room a debt =
+      let ce : Placed = exp_code e sc base pc in
+      let h : HasAt s.placed (pc + exp_size e) (one instr.Pop p) = has_next s.placed pc (pc + exp_size e) ce (one instr.Pop p) (ap (λ z. pc + z) (exp_length e sc base pc)) has in
+      exp_sim code n c call loop call_ok s deep e m le sc base pc sl [] env w cs ks (has_front s.placed pc ce (one instr.Pop p) has) protos v room a
+      (owes_then code m s.levels s.end (meant.eval call loop e env w cs) (λ _. give (normal env.bound)) (Pushed code n c call loop call_ok s deep sc.free sl [] (pc + exp_size e)) (Flows code s sc.free sc.own (sc.free + 0) sc.captured sl (pc + (exp_size e + 1)) brk)
+      (λ u w1 cs1 ks1 a1 k1 sl2 kept.
+      does code s (pc + exp_size e) sl2 (item.One u ∷ []) w1 ks1 instr.Pop p h.0
+      (moved code s (pc + exp_size e + 1) (pc + (exp_size e + 1)) sl2 [] w1 ks1 (Prim.omega arith) (stays m sc env sl sl2 (pc + (exp_size e + 1)) brk w1 cs1 ks1 v kept a1 k1))) debt)
+
+  leave_ok : (p : Pos) → StatOk (tree.leave p)
+  leave_ok p m le sc base pc brk sl env w cs ks has protos v room a debt = does code s pc sl [] w ks (instr.Jump brk) p has.0 (debt ks a sl (kept_same sc.free sl))
+
+  scope_ok : (p : Pos) (b : Block) → BlockOk b → StatOk (tree.scope p b)
+  scope_ok p b sim m le sc base pc brk sl env w cs ks has protos v room a debt =
+      sim m le sc base pc brk sl env w cs ks has protos v room a
+      (owes_then code m s.levels s.end (meant.exec_all call loop b env w cs) (λ flow. give (leave_block env.bound flow)) (Flows code s sc.free (behind_block b sc).own (behind_block b sc).free sc.captured sl (pc + block_size b) brk) (Flows code s sc.free sc.own (sc.free + 0) sc.captured sl (pc + block_size b) brk)
+      (λ flow w1 cs1 ks1 a1 k1. leave_flows code s m sc.free (behind_block b sc).own sc.own (behind_block b sc).free (sc.free + 0) sc.captured sl (pc + block_size b) brk env.bound (around_seen sc env sl v) flow w1 cs1 ks1 a1 k1) debt)
+
+  define_ok : (p : Pos) (e f : Exp) → StatOk (tree.define p e f)
+  define_ok p e f m le sc base pc brk sl env w cs ks has protos v room a debt =
+      let sf : Scope = past (exp_locals e) sc in
+      let cf : Placed = exp_code f sf base pc in
+      let h : HasAt s.placed (pc + exp_size f) (one (store_instr e sc) p) = has_next s.placed pc (pc + exp_size f) cf (one (store_instr e sc) p) (ap (λ z. pc + z) (exp_length f sf base pc)) has in
+      let end : ℕ = pc + (exp_size f + 1) in
+      let here : OwesFlow code s m sc.free sc.own (sc.free + 0) sc.captured sl end brk (go_on (meant.eval call loop f (behind (exp_locals e) env) w cs) (λ x. store (spot_in code s e env) x >> give (normal env.bound))) =
+      subst (λ o. OwesFlow code s m sc.free sc.own (sc.free + 0) sc.captured sl end brk (go_on o (λ spot. meant.eval call loop f (behind (exp_locals e) env) >>= (λ x. store spot x >> give (normal env.bound))))) (target_pure e env w cs) debt in
+      exp_sim code n c call loop call_ok s deep f m le sf base pc sl [] (behind (exp_locals e) env) w cs ks (has_front s.placed pc cf (one (store_instr e sc) p) has) protos (views_past (exp_locals e) sc env sl s.captured s.rest v) room a
+      (owes_then code m s.levels s.end (meant.eval call loop f (behind (exp_locals e) env) w cs) _ (Pushed code n c call loop call_ok s deep sc.free sl [] (pc + exp_size f)) (Flows code s sc.free sc.own (sc.free + 0) sc.captured sl end brk)
+      (λ u w1 cs1 ks1 a1 k1 sl2 kept.
+      store_ok code s e u sc env m (pc + exp_size f) sl2 [] w1 cs1 ks1 p (views_kept sc env sl sl2 s.captured s.rest kept v) h.0 a1
+      (owes_then code m s.levels s.end (store (spot_in code s e env) u w1 cs1) (λ _. give (normal env.bound)) (Goes code s (pc + exp_size f + 1) sl2 []) (Flows code s sc.free sc.own (sc.free + 0) sc.captured sl end brk)
+      (λ x w2 cs2 ks2 a2 k2. moved code s (pc + exp_size f + 1) end sl2 [] w2 ks2 (Prim.omega arith) (stays m sc env sl sl2 end brk w2 cs2 ks2 v kept a2 k2)) k1)) here)
+
+  declare_ok : (p : Pos) (ns : List annotation.Typed) (es : Exps) → StatOk (tree.declare p ns es)
+  declare_ok p ns es m le sc base pc brk sl env w cs ks has protos v room a debt =
+      let k : ℕ = length ns in
+      let ce : Placed = list_code es p 0 (past k sc) base pc in
+      let end : Placed = (instr.Spread k, p) ∷ begin_locals sc.free k p in
+      let to : ℕ = pc + (exps_size es + 1 + k + k) in
+      let h : HasAt s.placed (pc + exps_size es) end = has_next s.placed pc (pc + exps_size es) ce end (ap (λ z. pc + z) (list_length es p 0 (past k sc) base pc)) has in
+      list_sim code n c call loop call_ok s deep es m le p 0 [] refl (past k sc) base pc sl [] (behind k env) w cs ks (has_front s.placed pc ce end has) protos (views_past k sc env sl s.captured s.rest v) (Prim.omega (arith, room)) a
+      (owes_then code m s.levels s.end (meant.eval_all call loop es (behind k env) w cs) (λ vs. declare_all env.next (adjust k vs) env >>= (λ env1. give (normal env1.bound))) (Joined code n c call loop call_ok s deep sc.free sl [] [] (pc + exps_size es)) (Flows code s sc.free (in_slots k sc.next sc.free sc.own) (sc.free + k) sc.captured sl to brk)
+      (λ vs w1 cs1 ks1 a1 k1 sl2 kept.
+      let long : length sl2 ≡ length sl = kept.long in
+      does code s (pc + exps_size es) sl2 (item.Many vs ∷ []) w1 ks1 (instr.Spread k) p h.0
+      (begin_ok code s k vs m sc.next sc.free (pc + exps_size es + 1) sl2 [] sc.own sc.captured env w1 cs1 ks1 p h.1 (sees_kept sc.free sc.free sc.own sc.captured env.bound sl sl2 s.captured (Prim.omega arith) kept v.bound) (Prim.omega (arith, room, long)) a1
+      (owes_then code m s.levels s.end (declare_all sc.next (adjust k vs) env w1 cs1) (λ env1. give (normal env1.bound)) (Declared code s sc.free (in_slots k sc.next sc.free sc.own) (sc.free + k) sc.captured sl2 env (pc + exps_size es + 1 + k + k) []) (Flows code s sc.free (in_slots k sc.next sc.free sc.own) (sc.free + k) sc.captured sl to brk)
+      (λ env1 w2 cs2 ks2 a2 k2 sl3 kept3 sees same.
+      moved code s (pc + exps_size es + 1 + k + k) to sl3 [] w2 ks2 (Prim.omega arith) (k2 ks2 a2 sl3 (kept_on sc.free sc.free sl sl2 sl3 (Prim.omega arith) kept kept3) sees))
+      (subst (λ z. OwesFlow code s m sc.free (in_slots k sc.next sc.free sc.own) (sc.free + k) sc.captured sl to brk (go_on (declare_all z (adjust k vs) env w1 cs1) (λ env1. give (normal env1.bound)))) (sym v.next) k1)))) debt)
+
+  same_number : (x : ℕ) → nat_eq x x ≡ true
+  same_number x = (unsigned_Decides x x).1 refl
+
+  declare_function_ok : (p : Pos) (x : Name) (f : Exp) → StatOk (tree.declare_function p x f)
+  declare_function_ok p x f m le sc base pc brk sl env w cs ks has protos v room a debt =
+      let sd : Scope = declared 1 sc in
+      let cell : ℕ = length w.cells in
+      let env1 : Env = bind env.next cell env in
+      let sl2 : List Slot = slice_set sl sc.free (slot.Held value.Nil) in
+      let sl3 : List Slot = slice_set sl2 sc.free (slot.Cell cell) in
+      let long2 : length sl2 ≡ length sl = length_set sl sc.free (slot.Held value.Nil) in
+      let long3 : length sl3 ≡ length sl2 = length_set sl2 sc.free (slot.Cell cell) in
+      let kept3 : Kept sc.free sl sl3 = kept_on sc.free sc.free sl sl2 sl3 (Prim.omega arith) (kept_set sc.free sc.free sl (slot.Held value.Nil) (Prim.omega arith)) (kept_set sc.free sc.free sl2 (slot.Cell cell) (Prim.omega arith)) in
+      let in_cell : slice_get sl3 sc.free ≡ Some (slot.Cell cell) = get_set sl2 sc.free (slot.Cell cell) (Prim.omega (arith, room, long2)) in
+      let cf : Placed = exp_code f (past 1 sd) base (pc + 3) in
+      let at3 : pc + 1 + 1 + 1 ≡ pc + 3 = Prim.omega arith in
+      let h1 : HasAt s.placed (pc + 3) (cf ++ one (instr.SetCell sc.free) p) = subst (λ z. HasAt s.placed z (cf ++ one (instr.SetCell sc.free) p)) at3 has.1.1.1 in
+      let h2 : HasAt s.placed (pc + 3 + exp_size f) (one (instr.SetCell sc.free) p) = has_next s.placed (pc + 3) (pc + 3 + exp_size f) cf (one (instr.SetCell sc.free) p) (ap (λ z. pc + 3 + z) (exp_length f (past 1 sd) base (pc + 3))) h1 in
+      let to : ℕ = pc + (3 + exp_size f + 1) in
+      let views : Views (past 1 sd) (behind 1 env1) sl3 s.captured s.rest = record {
+        names = v.names;
+        next = ap (λ z. z + 1) v.next;
+        more = v.more;
+        bound = (sym v.next, Prim.omega arith, in_cell, sees_kept sc.free (sc.free + 1) sc.own sc.captured env.bound sl sl3 s.captured (Prim.omega arith) kept3 v.bound);
+      } in
+      does code s pc sl [] w ks instr.Nil p has.0
+      (does code s (pc + 1) sl (item.One value.Nil ∷ []) w ks (instr.SetSlot sc.free) p has.1.0
+      (does code s (pc + 1 + 1) sl2 [] w ks (instr.NewCell sc.free) p has.1.1.0
+      (comes_by code s _ _ (ap (λ z. row.value_in z (λ v. row.new_cell sc.free v) p (at_work code s (pc + 1 + 1) sl2 []) s.levels w ks) (get_set sl sc.free (slot.Held value.Nil) (Prim.omega (arith, room))))
+      (moved code s (pc + 1 + 1 + 1) (pc + 3) sl3 [] (with_cell value.Nil w) ks at3
+      (exp_sim code n c call loop call_ok s deep f m le (past 1 sd) base (pc + 3) sl3 [] (behind 1 env1) (with_cell value.Nil w) cs ks (has_front s.placed (pc + 3) cf (one (instr.SetCell sc.free) p) h1) protos views (Prim.omega (arith, room, long2, long3)) (record { few = a.few; made = a.made })
+      (owes_then code m s.levels s.end (meant.eval call loop f (behind 1 env1) (with_cell value.Nil w) cs) (λ u. change (write_cell (cell_of env1 env.next) u) >> give (normal env1.bound)) (Pushed code n c call loop call_ok s deep (sc.free + 1) sl3 [] (pc + 3 + exp_size f))
+      (Flows code s sc.free (in_slots 1 sc.next sc.free sc.own) (sc.free + 1) sc.captured sl to brk)
+      (λ u w1 cs1 ks1 a1 k1 sl4 kept4.
+      let there : slice_get sl4 sc.free ≡ Some (slot.Cell cell) = kept4.low sc.free (Prim.omega arith) ∙ in_cell in
+      let cell_found : cell_of env1 env.next ≡ Some cell = ap (λ z. cond z (Some cell) (lookup (nat_eq env.next) env.bound)) (same_number env.next) in
+      let k2 : OwesFlow code s m sc.free (in_slots 1 sc.next sc.free sc.own) (sc.free + 1) sc.captured sl to brk (gives (normal env1.bound) (write_cell (Some cell) u w1) cs1) =
+      subst (λ z. OwesFlow code s m sc.free (in_slots 1 sc.next sc.free sc.own) (sc.free + 1) sc.captured sl to brk (gives (normal env1.bound) (write_cell z u w1) cs1)) cell_found k1 in
+      does code s (pc + 3 + exp_size f) sl4 (item.One u ∷ []) w1 ks1 (instr.SetCell sc.free) p h2.0
+      (comes_by code s _ _ (ap (λ z. row.cell_in z (λ c. row.write c u) p (at_work code s (pc + 3 + exp_size f) sl4 []) s.levels w1 ks1) there)
+      (moved code s (pc + 3 + exp_size f + 1) to sl4 [] (write_cell (Some cell) u w1) ks1 (Prim.omega arith)
+      (k2 ks1 (record { few = a1.few; made = a1.made }) sl4 (kept_on sc.free (sc.free + 1) sl sl3 sl4 (Prim.omega arith) kept3 kept4)
+      (sees_kept (sc.free + 1) (sc.free + 1) (in_slots 1 sc.next sc.free sc.own) sc.captured env1.bound sl3 sl4 s.captured (Prim.omega arith) kept4 views.bound))))) debt))))))
+
+  -- ---- choices
+
+  abbrev ClausesOk : Clauses → Type 0
+  ClausesOk cl = (m : ℕ) → m ≤ n → (p : Pos) (sc : Scope) (base pc end brk : ℕ) (sl : List Slot) (env : Env) (w : World) (cs : List Closure) (ks : List CodeClosure) (otherwise : Act Flow)
+      → HasAt s.placed pc (clauses_code cl p sc base pc end brk) → HasAt code base (clauses_protos cl sc base) → Views sc env sl s.captured s.rest → sc.free + clauses_slots cl ≤ length sl → Alike code m w cs ks
+      → OwesFlow code s m sc.free sc.own (sc.free + 0) sc.captured sl end brk (meant.exec_clauses call loop cl otherwise env w cs)
+      → ((sl2 : List Slot) (w1 : World) (cs1 : List Closure) (ks1 : List CodeClosure) → Kept sc.free sl sl2 → Alike code m w1 cs1 ks1 → OwesFlow code s m sc.free sc.own (sc.free + 0) sc.captured sl end brk (otherwise w1 cs1)
+      → Halts code (running (at_work code s (pc + clauses_size cl) sl2 []) s.levels w1 ks1) s.end)
+      → Halts code (running (at_work code s pc sl []) s.levels w ks) s.end
+
+  no_clause_ok : ClausesOk tree.no_clause
+  no_clause_ok m le p sc base pc end brk sl env w cs ks otherwise has protos v room a debt k = moved code s pc (pc + 0) sl [] w ks (Prim.omega arith) (k sl w cs ks (kept_same sc.free sl) a debt)
+
+  clause_ok : (e : Exp) (b : Block) (cl : Clauses) → BlockOk b → ClausesOk cl → ClausesOk (tree.clause e b cl)
+  clause_ok e b cl sim sims m le p sc base pc end brk sl env w cs ks otherwise has protos v room a debt k =
+      let sb : Scope = past (exp_locals e) sc in
+      let sr : Scope = past (exp_locals e + block_locals b) sc in
+      let next : ℕ = pc + exp_size e + 1 + block_size b + 1 in
+      let ce : Placed = exp_code e sc base pc in
+      let cb : Placed = block_code b sb (base + exp_functions e) (pc + exp_size e + 1) brk in
+      let cr : Placed = clauses_code cl p sr (base + exp_functions e + block_functions b) next end brk in
+      let tail : Placed = (instr.JumpIfNot next, p) ∷ (cb ++ (instr.Jump end, p) ∷ cr) in
+      let h1 : HasAt s.placed (pc + exp_size e) tail = has_next s.placed pc (pc + exp_size e) ce tail (ap (λ z. pc + z) (exp_length e sc base pc)) has in
+      let h2 : HasAt s.placed (pc + exp_size e + 1 + block_size b) ((instr.Jump end, p) ∷ cr) =
+      has_next s.placed (pc + exp_size e + 1) (pc + exp_size e + 1 + block_size b) cb ((instr.Jump end, p) ∷ cr) (ap (λ z. pc + exp_size e + 1 + z) (block_length b sb (base + exp_functions e) (pc + exp_size e + 1) brk)) h1.1 in
+      let pb : List Proto = block_protos b sb (base + exp_functions e) in
+      let pr : List Proto = clauses_protos cl sr (base + exp_functions e + block_functions b) in
+      let q1 : HasAt code (base + exp_functions e) (pb ++ pr) = has_next code base (base + exp_functions e) (exp_protos e sc base) (pb ++ pr) (ap (λ z. base + z) (exp_count e sc base)) protos in
+      let q2 : HasAt code (base + exp_functions e + block_functions b) pr =
+      has_next code (base + exp_functions e) (base + exp_functions e + block_functions b) pb pr (ap (λ z. base + exp_functions e + z) (block_count b sb (base + exp_functions e))) q1 in
+      exp_sim code n c call loop call_ok s deep e m le sc base pc sl [] env w cs ks (has_front s.placed pc ce tail has) (has_front code base (exp_protos e sc base) (pb ++ pr) protos) v (Prim.omega (arith, room)) a
+      (owes_then code m s.levels s.end (meant.eval call loop e env w cs) _ (Pushed code n c call loop call_ok s deep sc.free sl [] (pc + exp_size e)) (Flows code s sc.free sc.own (sc.free + 0) sc.captured sl end brk)
+      (λ u w1 cs1 ks1 a1 k1 sl2 kept.
+      does code s (pc + exp_size e) sl2 (item.One u ∷ []) w1 ks1 (instr.JumpIfNot next) p h1.0
+      (branch (has_front s.placed (pc + exp_size e + 1) cb ((instr.Jump end, p) ∷ cr) h1.1) h2 (has_front code (base + exp_functions e) pb pr q1) q2 w1 cs1 ks1 a1 sl2 kept (is_true u) k1)) debt)
+    where
+      next : ℕ
+      next = pc + exp_size e + 1 + block_size b + 1
+
+      branch : HasAt s.placed (pc + exp_size e + 1) (block_code b (past (exp_locals e) sc) (base + exp_functions e) (pc + exp_size e + 1) brk)
+          → HasAt s.placed (pc + exp_size e + 1 + block_size b) ((instr.Jump end, p) ∷ clauses_code cl p (past (exp_locals e + block_locals b) sc) (base + exp_functions e + block_functions b) next end brk)
+          → HasAt code (base + exp_functions e) (block_protos b (past (exp_locals e) sc) (base + exp_functions e))
+          → HasAt code (base + exp_functions e + block_functions b) (clauses_protos cl (past (exp_locals e + block_locals b) sc) (base + exp_functions e + block_functions b))
+          → (w1 : World) (cs1 : List Closure) (ks1 : List CodeClosure) → Alike code m w1 cs1 ks1 → (sl2 : List Slot) → Kept sc.free sl sl2 → (t : Bool)
+          → OwesFlow code s m sc.free sc.own (sc.free + 0) sc.captured sl end brk
+          (either t (meant.exec_all call loop b (behind (exp_locals e) env) >>= (λ flow. give (leave_block env.bound flow))) (meant.exec_clauses call loop cl otherwise (behind (exp_locals e + block_locals b) env)) w1 cs1)
+          → Comes code s (row.jump_where (not t) next p (at_work code s (pc + exp_size e) sl2 []) s.levels w1 ks1)
+      branch hb hr qb qr w1 cs1 ks1 a1 sl2 kept true k1 =
+          let sb : Scope = past (exp_locals e) sc in
+          let long : length sl2 ≡ length sl = kept.long in
+          sim m le sb (base + exp_functions e) (pc + exp_size e + 1) brk sl2 (behind (exp_locals e) env) w1 cs1 ks1 hb qb (views_past (exp_locals e) sc env sl2 s.captured s.rest (views_kept sc env sl sl2 s.captured s.rest kept v)) (Prim.omega (arith, room, long)) a1
+          (owes_then code m s.levels s.end (meant.exec_all call loop b (behind (exp_locals e) env) w1 cs1) (λ flow. give (leave_block env.bound flow))
+          (Flows code s sc.free (behind_block b sb).own (behind_block b sb).free sc.captured sl2 (pc + exp_size e + 1 + block_size b) brk) (Flows code s sc.free sc.own (sc.free + 0) sc.captured sl end brk)
+          (λ flow w2 cs2 ks2 a2 k2. ended flow w2 cs2 ks2 a2 k2) k1)
+        where
+          ended : (flow : Flow) (w2 : World) (cs2 : List Closure) (ks2 : List CodeClosure) → Alike code m w2 cs2 ks2 → OwesFlow code s m sc.free sc.own (sc.free + 0) sc.captured sl end brk (give (leave_block env.bound flow) w2 cs2)
+              → Flows code s sc.free (behind_block b (past (exp_locals e) sc)).own (behind_block b (past (exp_locals e) sc)).free sc.captured sl2 (pc + exp_size e + 1 + block_size b) brk flow w2 ks2
+          ended (normal inner) w2 cs2 ks2 a2 k2 = λ sl3 kept3 _.
+              does code s (pc + exp_size e + 1 + block_size b) sl3 [] w2 ks2 (instr.Jump end) p hr.0
+              (stays m sc env sl sl3 end brk w2 cs2 ks2 v (kept_on sc.free sc.free sl sl2 sl3 (Prim.omega arith) kept kept3) a2 k2)
+          ended broken w2 cs2 ks2 a2 k2 = λ sl3 kept3. k2 ks2 a2 sl3 (kept_on sc.free sc.free sl sl2 sl3 (Prim.omega arith) kept kept3)
+          ended (returned vs) w2 cs2 ks2 a2 k2 = k2 ks2 a2
+      branch hb hr qb qr w1 cs1 ks1 a1 sl2 kept false k1 =
+          let sr : Scope = past (exp_locals e + block_locals b) sc in
+          let long : length sl2 ≡ length sl = kept.long in
+          sims m le p sr (base + exp_functions e + block_functions b) next end brk sl2 (behind (exp_locals e + block_locals b) env) w1 cs1 ks1 otherwise hr.1 qr
+          (views_past (exp_locals e + block_locals b) sc env sl2 s.captured s.rest (views_kept sc env sl sl2 s.captured s.rest kept v)) (Prim.omega (arith, room, long)) a1
+          (owes_flow_on code s m sc.free sc.free sc.own (sc.free + 0) sc.captured sl sl2 end end brk brk (Prim.omega arith) refl refl kept (meant.exec_clauses call loop cl otherwise (behind (exp_locals e + block_locals b) env) w1 cs1) k1)
+          (λ sl3 w2 cs2 ks2 kept3 a2 debt2.
+          moved code s (next + clauses_size cl) (pc + (exp_size e + 1 + block_size b + 1 + clauses_size cl)) sl3 [] w2 ks2 (Prim.omega arith)
+          (k sl3 w2 cs2 ks2 (kept_on sc.free sc.free sl sl2 sl3 (Prim.omega arith) kept kept3) a2
+          (owes_flow_on code s m sc.free sc.free sc.own (sc.free + 0) sc.captured sl2 sl end end brk brk (Prim.omega arith) refl refl (kept_back sc.free sl sl2 kept) (otherwise w2 cs2) debt2)))
+
+  -- ---- loops
+
+  while_ok : (p : Pos) (e : Exp) (b : Block) → BlockOk b → (m : ℕ) → m ≤ n → WhileOk code s m p e b (meant.exec call loop (tree.while p e b))
+  while_ok p e b sim m le sc base pc brk sl env w cs ks has protos v room a debt =
+      let sb : Scope = past (exp_locals e) sc in
+      let end : ℕ = pc + 2 + block_size b + exp_size e + 1 in
+      let to : ℕ = pc + (2 + block_size b + exp_size e + 1) in
+      let cb : Placed = block_code b sb base (pc + 2) end in
+      let ce : Placed = exp_code e sc (base + block_functions b) (pc + 2 + block_size b) in
+      let last : Placed = one (instr.JumpIf (pc + 1)) p in
+      let two : pc + 1 + 1 ≡ pc + 2 = Prim.omega arith in
+      let h1 : HasAt s.placed (pc + 2) (cb ++ (ce ++ last)) = subst (λ z. HasAt s.placed z (cb ++ (ce ++ last))) two has.1.1 in
+      let h2 : HasAt s.placed (pc + 2 + block_size b) (ce ++ last) = has_next s.placed (pc + 2) (pc + 2 + block_size b) cb (ce ++ last) (ap (λ z. pc + 2 + z) (block_length b sb base (pc + 2) end)) h1 in
+      let h3 : HasAt s.placed (pc + 2 + block_size b + exp_size e) last = has_next s.placed (pc + 2 + block_size b) (pc + 2 + block_size b + exp_size e) ce last (ap (λ z. pc + 2 + block_size b + z) (exp_length e sc (base + block_functions b) (pc + 2 + block_size b))) h2 in
+      let pe : List Proto = exp_protos e sc (base + block_functions b) in
+      let q : HasAt code (base + block_functions b) pe = has_next code base (base + block_functions b) (block_protos b sb base) pe (ap (λ z. base + z) (block_count b sb base)) protos in
+      exp_sim code n c call loop call_ok s deep e m le sc (base + block_functions b) (pc + 2 + block_size b) sl [] env w cs ks (has_front s.placed (pc + 2 + block_size b) ce last h2) q v (Prim.omega (arith, room)) a
+      (owes_then code m s.levels s.end (meant.eval call loop e env w cs) _ (Pushed code n c call loop call_ok s deep sc.free sl [] (pc + 2 + block_size b + exp_size e)) (Flows code s sc.free sc.own (sc.free + 0) sc.captured sl to brk)
+      (λ u w1 cs1 ks1 a1 k1 sl2 kept.
+      does code s (pc + 2 + block_size b + exp_size e) sl2 (item.One u ∷ []) w1 ks1 (instr.JumpIf (pc + 1)) p h3.0
+      (branch (has_front s.placed (pc + 2) cb (ce ++ last) h1) (has_front code base (block_protos b sb base) pe protos) w1 cs1 ks1 a1 sl2 kept (is_true u) k1)) debt)
+    where
+      branch : HasAt s.placed (pc + 2) (block_code b (past (exp_locals e) sc) base (pc + 2) (pc + 2 + block_size b + exp_size e + 1)) → HasAt code base (block_protos b (past (exp_locals e) sc) base)
+          → (w1 : World) (cs1 : List Closure) (ks1 : List CodeClosure) → Alike code m w1 cs1 ks1 → (sl2 : List Slot) → Kept sc.free sl sl2 → (t : Bool)
+          → OwesFlow code s m sc.free sc.own (sc.free + 0) sc.captured sl (pc + (2 + block_size b + exp_size e + 1)) brk
+          (either t (turn >> (meant.exec_all call loop b (behind (exp_locals e) env) >>= (λ flow. next_turn env.bound flow (λ _. loop (while_again p e b) env)))) (give (normal env.bound)) w1 cs1)
+          → Comes code s (row.jump_where t (pc + 1) p (at_work code s (pc + 2 + block_size b + exp_size e) sl2 []) s.levels w1 ks1)
+      branch hb qb w1 cs1 ks1 a1 sl2 kept false k1 =
+          moved code s (pc + 2 + block_size b + exp_size e + 1) (pc + (2 + block_size b + exp_size e + 1)) sl2 [] w1 ks1 (Prim.omega arith)
+          (stays m sc env sl sl2 (pc + (2 + block_size b + exp_size e + 1)) brk w1 cs1 ks1 v kept a1 k1)
+      branch hb qb w1 cs1 ks1 a1 sl2 kept true k1 =
+          let sb : Scope = past (exp_locals e) sc in
+          let end : ℕ = pc + 2 + block_size b + exp_size e + 1 in
+          let to : ℕ = pc + (2 + block_size b + exp_size e + 1) in
+          let long : length sl2 ≡ length sl = kept.long in
+          turn_ok code s m (pc + 1) sl2 p (meant.exec_all call loop b (behind (exp_locals e) env) >>= (λ flow. next_turn env.bound flow (λ _. loop (while_again p e b) env)))
+          (Flows code s sc.free sc.own (sc.free + 0) sc.captured sl to brk) w1 cs1 ks1 has.1.0 a1
+          (λ l w2 less a2 k2.
+          moved code s (pc + 1 + 1) (pc + 2) sl2 [] w2 ks1 (Prim.omega arith)
+          (sim l (Prim.omega (arith, less, le)) sb base (pc + 2) end sl2 (behind (exp_locals e) env) w2 cs1 ks1 hb qb (views_past (exp_locals e) sc env sl2 s.captured s.rest (views_kept sc env sl sl2 s.captured s.rest kept v)) (Prim.omega (arith, room, long)) a2
+          (owes_then code l s.levels s.end (meant.exec_all call loop b (behind (exp_locals e) env) w2 cs1) _ (Flows code s sc.free (behind_block b sb).own (behind_block b sb).free sc.captured sl2 (pc + 2 + block_size b) end) (Flows code s sc.free sc.own (sc.free + 0) sc.captured sl to brk)
+          (λ flow w3 cs3 ks3 a3 k3.
+          loop_flows code s l sc.free sc.free (behind_block b sb).own sc.own (behind_block b sb).free (sc.free + 0) sc.captured sl2 sl (pc + 2 + block_size b) to end brk env.bound (Prim.omega arith) kept (around_seen sc env sl v) (Prim.omega arith)
+          (λ _. loop (while_again p e b) env) flow w3 cs3 ks3 a3
+          (λ inner k4 sl3 kept3 _.
+          let kept4 : Kept sc.free sl sl3 = kept_on sc.free sc.free sl sl2 sl3 (Prim.omega arith) kept kept3 in
+          let long4 : length sl3 ≡ length sl = kept4.long in
+          loop_ok.whiles l (Prim.omega (arith, less, le)) p e b sc base pc brk sl3 env w3 cs3 ks3 has protos (views_kept sc env sl sl3 s.captured s.rest kept4 v) (Prim.omega (arith, room, long4)) a3
+          (owes_flow_on code s l sc.free sc.free sc.own (sc.free + 0) sc.captured sl sl3 to to brk brk (Prim.omega arith) refl refl kept4 (loop (while_again p e b) env w3 cs3) k4)) k3) k2))) k1
+
+  repeat_ok : (p : Pos) (b : Block) (e : Exp) → BlockOk b → (m : ℕ) → m ≤ n → RepeatOk code s m p b e (meant.exec call loop (tree.repeat p b e))
+  repeat_ok p b e sim m le sc base pc brk sl env w cs ks has protos v room a debt =
+      let se : Scope = record (behind_block b sc) { next = sc.next + block_locals b } in
+      let end : ℕ = pc + 1 + block_size b + exp_size e + 1 in
+      let to : ℕ = pc + (1 + block_size b + exp_size e + 1) in
+      let cb : Placed = block_code b sc base (pc + 1) end in
+      let ce : Placed = exp_code e se (base + block_functions b) (pc + 1 + block_size b) in
+      let last : Placed = one (instr.JumpIfNot pc) p in
+      let h2 : HasAt s.placed (pc + 1 + block_size b) (ce ++ last) = has_next s.placed (pc + 1) (pc + 1 + block_size b) cb (ce ++ last) (ap (λ z. pc + 1 + z) (block_length b sc base (pc + 1) end)) has.1 in
+      let h3 : HasAt s.placed (pc + 1 + block_size b + exp_size e) last = has_next s.placed (pc + 1 + block_size b) (pc + 1 + block_size b + exp_size e) ce last (ap (λ z. pc + 1 + block_size b + z) (exp_length e se (base + block_functions b) (pc + 1 + block_size b))) h2 in
+      let pe : List Proto = exp_protos e se (base + block_functions b) in
+      let q : HasAt code (base + block_functions b) pe = has_next code base (base + block_functions b) (block_protos b sc base) pe (ap (λ z. base + z) (block_count b sc base)) protos in
+      let same_free : (behind_block b sc).free ≡ sc.free + block_declares b = free_behind b sc in
+      turn_ok code s m pc sl p _ (Flows code s sc.free sc.own (sc.free + 0) sc.captured sl to brk) w cs ks has.0 a
+      (λ l w2 less a2 k2.
+      sim l (Prim.omega (arith, less, le)) sc base (pc + 1) end sl env w2 cs ks (has_front s.placed (pc + 1) cb (ce ++ last) has.1) (has_front code base (block_protos b sc base) pe protos) v (Prim.omega (arith, room)) a2
+      (owes_then code l s.levels s.end (meant.exec_all call loop b env w2 cs) _ (Flows code s sc.free (behind_block b sc).own (behind_block b sc).free sc.captured sl (pc + 1 + block_size b) end) (Flows code s sc.free sc.own (sc.free + 0) sc.captured sl to brk)
+      (λ flow w3 cs3 ks3 a3 k3.
+      loop_flows code s l sc.free sc.free (behind_block b sc).own sc.own (behind_block b sc).free (sc.free + 0) sc.captured sl sl (pc + 1 + block_size b) to end brk env.bound (Prim.omega arith) (kept_same sc.free sl) (around_seen sc env sl v) (Prim.omega arith)
+      _ flow w3 cs3 ks3 a3
+      (λ inner k4 sl3 kept3 sees.
+      let long3 : length sl3 ≡ length sl = kept3.long in
+      let env2 : Env = behind (block_locals b) (with_bound inner env) in
+      exp_sim code n c call loop call_ok s deep e l (Prim.omega (arith, less, le)) se (base + block_functions b) (pc + 1 + block_size b) sl3 [] env2 w3 cs3 ks3 (has_front s.placed (pc + 1 + block_size b) ce last h2) q
+      (record { names = names_behind b sc ∙ v.names; next = ap (λ z. z + block_locals b) v.next; more = v.more; bound = subst (λ z. Sees (behind_block b sc).free (behind_block b sc).own z inner sl3 s.captured) (sym (captured_behind b sc)) sees })
+      (Prim.omega (arith, room, long3, same_free)) a3
+      (owes_then code l s.levels s.end (meant.eval call loop e env2 w3 cs3) _ (Pushed code n c call loop call_ok s deep (behind_block b sc).free sl3 [] (pc + 1 + block_size b + exp_size e)) (Flows code s sc.free sc.own (sc.free + 0) sc.captured sl to brk)
+      (λ u w4 cs4 ks4 a4 k5 sl4 kept4.
+      let kept5 : Kept sc.free sl sl4 = kept_on sc.free (behind_block b sc).free sl sl3 sl4 (Prim.omega (arith, same_free)) kept3 kept4 in
+      does code s (pc + 1 + block_size b + exp_size e) sl4 (item.One u ∷ []) w4 ks4 (instr.JumpIfNot pc) p h3.0
+      (branch l less w4 cs4 ks4 a4 sl4 kept5 (is_true u) k5)) k4)) k3) k2)) debt
+    where
+      branch : (l : ℕ) → suc l ≤ m → (w1 : World) (cs1 : List Closure) (ks1 : List CodeClosure) → Alike code l w1 cs1 ks1 → (sl2 : List Slot) → Kept sc.free sl sl2 → (t : Bool)
+          → OwesFlow code s l sc.free sc.own (sc.free + 0) sc.captured sl (pc + (1 + block_size b + exp_size e + 1)) brk (either t (give (normal env.bound)) (loop (repeat_again p b e) env) w1 cs1)
+          → Comes code s (row.jump_where (not t) pc p (at_work code s (pc + 1 + block_size b + exp_size e) sl2 []) s.levels w1 ks1)
+      branch l less w1 cs1 ks1 a1 sl2 kept true k1 =
+          moved code s (pc + 1 + block_size b + exp_size e + 1) (pc + (1 + block_size b + exp_size e + 1)) sl2 [] w1 ks1 (Prim.omega arith)
+          (stays l sc env sl sl2 (pc + (1 + block_size b + exp_size e + 1)) brk w1 cs1 ks1 v kept a1 k1)
+      branch l less w1 cs1 ks1 a1 sl2 kept false k1 =
+          let long : length sl2 ≡ length sl = kept.long in
+          loop_ok.repeats l (Prim.omega (arith, less, le)) p b e sc base pc brk sl2 env w1 cs1 ks1 has protos (views_kept sc env sl sl2 s.captured s.rest kept v) (Prim.omega (arith, room, long)) a1
+          (owes_flow_on code s l sc.free sc.free sc.own (sc.free + 0) sc.captured sl sl2 (pc + (1 + block_size b + exp_size e + 1)) (pc + (1 + block_size b + exp_size e + 1)) brk brk (Prim.omega arith) refl refl kept (loop (repeat_again p b e) env w1 cs1) k1)
