@@ -692,3 +692,149 @@ module _ (code : List Proto) (n c : ℕ) (call : Caller) (loop : Looper) (call_o
           let long : length sl2 ≡ length sl = kept.long in
           loop_ok.repeats l (Prim.omega (arith, less, le)) p b e sc base pc brk sl2 env w1 cs1 ks1 has protos (views_kept sc env sl sl2 s.captured s.rest kept v) (Prim.omega (arith, room, long)) a1
           (owes_flow_on code s l sc.free sc.free sc.own (sc.free + 0) sc.captured sl sl2 (pc + (1 + block_size b + exp_size e + 1)) (pc + (1 + block_size b + exp_size e + 1)) brk brk (Prim.omega arith) refl refl kept (loop (repeat_again p b e) env w1 cs1) k1)
+
+  -- ---- the numeric `for`
+
+  hidden_row : (next : ℤ → ℤ → ℤ → Row) (u v t : Value) (sc : Scope) (p : Pos) (pc : ℕ) (sl : List Slot) (w : World) (ks : List CodeClosure) → Hidden code s sc u v t sl
+      → row.loop_slots sc.free next p (at_work code s pc sl []) s.levels w ks ≡ row.bounds u v t next p (at_work code s pc sl []) s.levels w ks
+  hidden_row next u v t sc p pc sl w ks h =
+      ap (λ z. row.value_in z (λ u. row.from_slot (sc.free + 1) (λ v. row.from_slot (sc.free + 2) (λ x. row.bounds u v x next))) p (at_work code s pc sl []) s.levels w ks) h.first
+      ∙ ap (λ z. row.value_in z (λ v. row.from_slot (sc.free + 2) (λ x. row.bounds u v x next)) p (at_work code s pc sl []) s.levels w ks) h.second
+      ∙ ap (λ z. row.value_in z (λ x. row.bounds u v x next) p (at_work code s pc sl []) s.levels w ks) h.third
+
+  around_on : (sc : Scope) (x next : ℕ) (env : Env) (sl sl2 : List Slot) → Kept sc.free sl sl2 → Around code s sc x next env sl → Around code s sc x next env sl2
+  around_on sc x next env sl sl2 kept r =
+      record { names = r.names; number = r.number; after = r.after; more = r.more; bound = sees_kept sc.free sc.free sc.own sc.captured env.bound sl sl2 s.captured (Prim.omega arith) kept r.bound }
+
+  count_turn : (x : ℕ) (i limit step : ℤ) (b : Block) → BlockOk b → (m : ℕ) → m ≤ n → (p : Pos) (sc : Scope) (base turn_at next brk : ℕ) (sl : List Slot) (env : Env) (w : World) (cs : List Closure) (ks : List CodeClosure)
+      → HasAt s.placed turn_at (count_code code s p sc b next base turn_at) → HasAt code base (block_protos b (loop_scope code s 1 next sc) base) → Around code s sc x next env sl → Hidden code s sc (value.Int i) (value.Int limit) (value.Int step) sl
+      → sc.free + (4 + block_slots b) ≤ length sl → Alike code m w cs ks
+      → OwesFlow code s m sc.free sc.own (sc.free + 0) sc.captured sl (turn_at + 4 + block_size b + 1) brk
+        ((turn >> (declare x (value.Int i) env >>= (λ env1. meant.exec_all call loop b env1 >>= (λ flow. next_turn env.bound flow (λ _. loop (counting x (i +ℤ step) limit step b) env))))) w cs)
+      → Halts code (running (at_work code s turn_at sl []) s.levels w ks) s.end
+  count_turn x i limit step b sim m le p sc base turn_at next brk sl env w cs ks has protos around hidden room a debt =
+      let f3 : ℕ = sc.free + 3 in
+      let sb : Scope = loop_scope code s 1 next sc in
+      let to : ℕ = turn_at + 4 + block_size b + 1 in
+      let cb : Placed = block_code b sb base (turn_at + 4) to in
+      let last : Placed = one (instr.ForStep sc.free turn_at) p in
+      let four : turn_at + 1 + 1 + 1 + 1 ≡ turn_at + 4 = Prim.omega arith in
+      let h1 : HasAt s.placed (turn_at + 4) (cb ++ last) = subst (λ z. HasAt s.placed z (cb ++ last)) four has.1.1.1.1 in
+      let sl1 : List Slot = slice_set sl f3 (slot.Held (value.Int i)) in
+      let long1 : length sl1 ≡ length sl = length_set sl f3 (slot.Held (value.Int i)) in
+      turn_ok code s m turn_at sl p (declare x (value.Int i) env >>= (λ env1. meant.exec_all call loop b env1 >>= (λ flow. next_turn env.bound flow (λ _. loop (counting x (i +ℤ step) limit step b) env))))
+      (Flows code s sc.free sc.own (sc.free + 0) sc.captured sl to brk) w cs ks has.0 a
+      (λ l w2 less a2 k2.
+      let cell : ℕ = length w2.cells in
+      let sl2 : List Slot = slice_set sl1 f3 (slot.Cell cell) in
+      let env1 : Env = bind x cell env in
+      let w3 : World = with_cell (value.Int i) w2 in
+      let long2 : length sl2 ≡ length sl1 = length_set sl1 f3 (slot.Cell cell) in
+      let kept : Kept f3 sl sl2 = kept_on f3 f3 sl sl1 sl2 (Prim.omega arith) (kept_set f3 f3 sl (slot.Held (value.Int i)) (Prim.omega arith)) (kept_set f3 f3 sl1 (slot.Cell cell) (Prim.omega arith)) in
+      let kept0 : Kept sc.free sl sl2 = record { long = kept.long; low = λ j h. kept.low j (Prim.omega (arith, h)) } in
+      does code s (turn_at + 1) sl [] w2 ks (instr.GetSlot sc.free) p has.1.0
+      (comes_by code s _ _ (ap (λ z. row.value_in z (λ v. row.push_value v) p (at_work code s (turn_at + 1) sl []) s.levels w2 ks) hidden.first)
+      (does code s (turn_at + 1 + 1) sl (item.One (value.Int i) ∷ []) w2 ks (instr.SetSlot f3) p has.1.1.0
+      (does code s (turn_at + 1 + 1 + 1) sl1 [] w2 ks (instr.NewCell f3) p has.1.1.1.0
+      (comes_by code s _ _ (ap (λ z. row.value_in z (λ v. row.new_cell f3 v) p (at_work code s (turn_at + 1 + 1 + 1) sl1 []) s.levels w2 ks) (get_set sl f3 (slot.Held (value.Int i)) (Prim.omega (arith, room))))
+      (moved code s (turn_at + 1 + 1 + 1 + 1) (turn_at + 4) sl2 [] w3 ks four
+      (sim l (Prim.omega (arith, less, le)) sb base (turn_at + 4) to sl2 env1 w3 cs ks (has_front s.placed (turn_at + 4) cb last h1) protos
+      (record {
+        names = around.names; next = around.after; more = around.more;
+        bound = (around.number, Prim.omega arith, get_set sl1 f3 (slot.Cell cell) (Prim.omega (arith, room, long1)), sees_kept sc.free (sc.free + 3 + 1) sc.own sc.captured env.bound sl sl2 s.captured (Prim.omega arith) kept0 around.bound);
+      })
+      (Prim.omega (arith, room, long1, long2)) (record { few = a2.few; made = a2.made })
+      (owes_then code l s.levels s.end (meant.exec_all call loop b env1 w3 cs) (λ flow. next_turn env.bound flow (λ _. loop (counting x (i +ℤ step) limit step b) env))
+        (Flows code s (sc.free + 3 + 1) (behind_block b sb).own (behind_block b sb).free sc.captured sl2 (turn_at + 4 + block_size b) to) (Flows code s sc.free sc.own (sc.free + 0) sc.captured sl to brk)
+      (λ flow w4 cs4 ks4 a4 k4.
+      loop_flows code s l (sc.free + 3 + 1) sc.free (behind_block b sb).own sc.own (behind_block b sb).free (sc.free + 0) sc.captured sl2 sl (turn_at + 4 + block_size b) to to brk env.bound (Prim.omega arith) kept0
+        (λ sl3 kept3. sees_kept sc.free (sc.free + 0) sc.own sc.captured env.bound sl sl3 s.captured (Prim.omega arith) kept3 around.bound) refl
+        (λ _. loop (counting x (i +ℤ step) limit step b) env) flow w4 cs4 ks4 a4
+      (λ inner k5 sl3 kept3 _.
+      let kept4 : Kept sc.free sl sl3 = kept_on sc.free (sc.free + 3 + 1) sl sl2 sl3 (Prim.omega arith) kept0 kept3 in
+      let long4 : length sl3 ≡ length sl = kept4.long in
+      loop_ok.counts l (Prim.omega (arith, less, le)) x (i +ℤ step) limit step b i refl p sc base turn_at next brk sl3 env w4 cs4 ks4 has protos (around_on sc x next env sl sl3 kept4 around)
+      (record {
+        first = kept3.low sc.free (Prim.omega arith) ∙ kept.low sc.free (Prim.omega arith) ∙ hidden.first;
+        second = kept3.low (sc.free + 1) (Prim.omega arith) ∙ kept.low (sc.free + 1) (Prim.omega arith) ∙ hidden.second;
+        third = kept3.low (sc.free + 2) (Prim.omega arith) ∙ kept.low (sc.free + 2) (Prim.omega arith) ∙ hidden.third;
+      })
+      (Prim.omega (arith, room, long4)) a4
+      (owes_flow_on code s l sc.free sc.free sc.own (sc.free + 0) sc.captured sl sl3 to to brk brk (Prim.omega arith) refl refl kept4 (loop (counting x (i +ℤ step) limit step b) env w4 cs4) k5)) k4) k2)))))))) debt
+
+  count_ok : (x : ℕ) (i limit step : ℤ) (b : Block) → BlockOk b → (m : ℕ) → m ≤ n → CountOk code s m x i limit step b (λ env. meant.count_from call loop (λ env1. meant.exec_all call loop b env1) x i limit step b env)
+  count_ok x i limit step b sim m le old sum p sc base turn_at next brk sl env w cs ks has protos around hidden room a debt =
+      let sb : Scope = loop_scope code s 1 next sc in
+      let to : ℕ = turn_at + 4 + block_size b + 1 in
+      let cb : Placed = block_code b sb base (turn_at + 4) to in
+      let last : Placed = one (instr.ForStep sc.free turn_at) p in
+      let four : turn_at + 1 + 1 + 1 + 1 ≡ turn_at + 4 = Prim.omega arith in
+      let h1 : HasAt s.placed (turn_at + 4) (cb ++ last) = subst (λ z. HasAt s.placed z (cb ++ last)) four has.1.1.1.1 in
+      let h2 : HasAt s.placed (turn_at + 4 + block_size b) last = has_next s.placed (turn_at + 4) (turn_at + 4 + block_size b) cb last (ap (λ z. turn_at + 4 + z) (block_length b sb base (turn_at + 4) to)) h1 in
+      does code s (turn_at + 4 + block_size b) sl [] w ks (instr.ForStep sc.free turn_at) p h2.0
+      (comes_by code s _ _ (hidden_row (λ k limit step. row.step_loop sc.free turn_at k limit step) (value.Int old) (value.Int limit) (value.Int step) sc p (turn_at + 4 + block_size b) sl w ks hidden)
+      (subst (λ z. Comes code s (row.step_where (runs_for step limit z) sc.free turn_at z p (at_work code s (turn_at + 4 + block_size b) sl []) s.levels w ks)) sum
+      (branch (runs_for step limit i) debt)))
+    where
+      branch : (t : Bool) → OwesFlow code s m sc.free sc.own (sc.free + 0) sc.captured sl (turn_at + 4 + block_size b + 1) brk
+            (either t (turn >> (declare x (value.Int i) env >>= (λ env1. meant.exec_all call loop b env1 >>= (λ flow. next_turn env.bound flow (λ _. loop (counting x (i +ℤ step) limit step b) env))))) (give (normal env.bound)) w cs)
+          → Comes code s (row.step_where t sc.free turn_at i p (at_work code s (turn_at + 4 + block_size b) sl []) s.levels w ks)
+      branch false k = k ks a sl (kept_same sc.free sl) (sees_kept sc.free (sc.free + 0) sc.own sc.captured env.bound sl sl s.captured (Prim.omega arith) (kept_same sc.free sl) around.bound)
+      branch true k =
+          let sl2 : List Slot = slice_set sl sc.free (slot.Held (value.Int i)) in
+          let kept : Kept sc.free sl sl2 = kept_set sc.free sc.free sl (slot.Held (value.Int i)) (Prim.omega arith) in
+          let long : length sl2 ≡ length sl = kept.long in
+          count_turn x i limit step b sim m le p sc base turn_at next brk sl2 env w cs ks has protos (around_on sc x next env sl sl2 kept around)
+          (record {
+            first = get_set sl sc.free (slot.Held (value.Int i)) (Prim.omega (arith, room));
+            second = get_set_behind sl sc.free (sc.free + 1) (slot.Held (value.Int i)) (Prim.omega arith) ∙ hidden.second;
+            third = get_set_behind sl sc.free (sc.free + 2) (slot.Held (value.Int i)) (Prim.omega arith) ∙ hidden.third;
+          })
+          (Prim.omega (arith, room, long)) a
+          (owes_flow_on code s m sc.free sc.free sc.own (sc.free + 0) sc.captured sl sl2 (turn_at + 4 + block_size b + 1) (turn_at + 4 + block_size b + 1) brk brk (Prim.omega arith) refl refl kept _ k)
+
+  recorded_alike : (k : ModuleKind) (p : Pos) (m : ℕ) (w : World) (cs : List Closure) (ks : List CodeClosure) → Alike code m w cs ks → Alike code m (recorded k p w) cs ks
+  recorded_alike Typed p m w cs ks a = record { few = a.few; made = a.made }
+  recorded_alike Untyped p m w cs ks a = a
+
+  bound_ok : (u : Value) (m pc : ℕ) (sl : List Slot) (p : Pos) (next : ℤ → Act Flow) (K : Flow → World → List CodeClosure → Type 0) (w : World) (cs : List Closure) (ks : List CodeClosure) → Alike code m w cs ks
+      → ((i : ℤ) → Owes code m s.levels s.end K (next i w cs) → Halts code (running (at_work code s (pc + 1) sl (item.One (value.Int i) ∷ [])) s.levels w ks) s.end)
+      → Owes code m s.levels s.end K (go_on (bound p u w cs) next) → Comes code s (row.bound u p (at_work code s pc sl []) s.levels w ks)
+  bound_ok (value.Int i) m pc sl p next K w cs ks a f debt = f i debt
+  bound_ok value.Nil m pc sl p next K w cs ks a f debt = debt ks (recorded_alike (kind_at w p) p m w cs ks a)
+  bound_ok (value.Bool b) m pc sl p next K w cs ks a f debt = debt ks (recorded_alike (kind_at w p) p m w cs ks a)
+  bound_ok (value.Str t) m pc sl p next K w cs ks a f debt = debt ks (recorded_alike (kind_at w p) p m w cs ks a)
+  bound_ok (value.Table t) m pc sl p next K w cs ks a f debt = debt ks (recorded_alike (kind_at w p) p m w cs ks a)
+  bound_ok (value.Closure t) m pc sl p next K w cs ks a f debt = debt ks (recorded_alike (kind_at w p) p m w cs ks a)
+  bound_ok (value.Builtin t) m pc sl p next K w cs ks a f debt = debt ks (recorded_alike (kind_at w p) p m w cs ks a)
+
+  -- the code of a step, whose test for 0 waits for the loop's beginning
+  step_ok : (e : Step) (m : ℕ) → m ≤ n → (p : Pos) (sc : Scope) (base pc : ℕ) (sl : List Slot) (env : Env) (next : ℤ → Act Flow) (K : Flow → World → List CodeClosure → Type 0) (w : World) (cs : List Closure) (ks : List CodeClosure)
+      → HasAt s.placed pc (step_code e p sc base pc) → HasAt code base (step_protos e sc base) → Views sc env sl s.captured s.rest → sc.free + step_slots e ≤ length sl → Alike code m w cs ks
+      → ((i : ℤ) (sl2 : List Slot) (w1 : World) (cs1 : List Closure) (ks1 : List CodeClosure) → Kept sc.free sl sl2 → Alike code m w1 cs1 ks1 → Owes code m s.levels s.end K (go_on (step_bound (step_place e p) i w1 cs1) next)
+        → Halts code (running (at_work code s (pc + step_size e) sl2 (item.One (value.Int i) ∷ [])) s.levels w1 ks1) s.end)
+      → Owes code m s.levels s.end K (go_on (meant.eval_step call loop e env w cs) next) → Halts code (running (at_work code s pc sl []) s.levels w ks) s.end
+  step_ok tree.no_step m le p sc base pc sl env next K w cs ks has protos v room a f debt =
+      does code s pc sl [] w ks (instr.Int (pos 1)) p has.0 (f (pos 1) sl w cs ks (kept_same sc.free sl) a debt)
+  step_ok (tree.step e) m le p sc base pc sl env next K w cs ks has protos v room a f debt =
+      let ce : Placed = exp_code e sc base pc in
+      let h : HasAt s.placed (pc + exp_size e) (one instr.Bound (place_of e)) = has_next s.placed pc (pc + exp_size e) ce (one instr.Bound (place_of e)) (ap (λ z. pc + z) (exp_length e sc base pc)) has in
+      exp_sim code n c call loop call_ok s deep e m le sc base pc sl [] env w cs ks (has_front s.placed pc ce (one instr.Bound (place_of e)) has) protos v room a
+      (owes_then code m s.levels s.end (meant.eval call loop e env w cs) (λ u. bound (place_of e) u >>= (λ k. step_bound (place_of e) k >>= next)) (Pushed code n c call loop call_ok s deep sc.free sl [] (pc + exp_size e)) K
+      (λ u w1 cs1 ks1 a1 k1 sl2 kept.
+      does code s (pc + exp_size e) sl2 (item.One u ∷ []) w1 ks1 instr.Bound (place_of e) h.0
+      (bound_ok u m (pc + exp_size e) sl2 (place_of e) (λ k. step_bound (place_of e) k >>= next) K w1 cs1 ks1 a1
+      (λ i k2. moved code s (pc + exp_size e + 1) (pc + (exp_size e + 1)) sl2 (item.One (value.Int i) ∷ []) w1 ks1 (Prim.omega arith) (f i sl2 w1 cs1 ks1 kept a1 k2)) k1))
+      (regroup (meant.eval call loop e env w cs) debt))
+    where
+      -- what is done after another part, and then a third
+      regroup : (o : Outcome Value) → Owes code m s.levels s.end K (go_on (go_on o (λ u. bound (place_of e) u >>= (λ k. step_bound (place_of e) k))) next)
+          → Owes code m s.levels s.end K (go_on o (λ u. bound (place_of e) u >>= (λ k. step_bound (place_of e) k >>= next)))
+      regroup (gives u w1 cs1) d = inner (bound (place_of e) u w1 cs1) d
+        where
+          inner : (o : Outcome ℤ) → Owes code m s.levels s.end K (go_on (go_on o (λ k. step_bound (place_of e) k)) next) → Owes code m s.levels s.end K (go_on o (λ k. step_bound (place_of e) k >>= next))
+          inner (gives k w2 cs2) d2 = d2
+          inner (raises x w2 cs2) d2 = d2
+          inner (cut w2) d2 = d2
+      regroup (raises x w1 cs1) d = d
+      regroup (cut w1) d = d
