@@ -93,21 +93,21 @@ module _ (code : List Proto) (s : Setting code) where
   loop_flows m d1 d2 own1 own2 free1 free2 captured sl1 sl2 to1 to2 brk1 brk2 around le kept sees e more (returned vs) w cs ks a f h = h ks a
 
   -- a turn of a loop, which is taken or cuts the run
-  turn_at : (m m1 : ℕ) (pc : ℕ) (sl : List Slot) (p : Pos) (next : Act Flow) (K : Flow → World → List CodeClosure → Type 0) (t : ℕ) (w : World) (cs : List Closure) (ks : List CodeClosure) → slice_get s.placed pc ≡ Some (instr.Turn, p)
+  turn_at : (m m1 : ℕ) (pc : ℕ) (sl : List Slot) (st : List Item) (p : Pos) (next : Act Flow) (K : Flow → World → List CodeClosure → Type 0) (t : ℕ) (w : World) (cs : List Closure) (ks : List CodeClosure) → slice_get s.placed pc ≡ Some (instr.Turn, p)
       → w.turns ≡ t → Alike code m w cs ks
-      → ((l : ℕ) (w1 : World) → suc l ≤ m → Alike code l w1 cs ks → Owes code l s.levels s.end K (next w1 cs) → Halts code (running (at_work code s (pc + 1) sl []) s.levels w1 ks) s.end)
-      → Owes code m s.levels s.end K (go_on (turned t w cs) (λ _. next)) → Comes code s (row.turned t p (at_work code s pc sl []) s.levels w ks)
-  turn_at m m1 pc sl p next K zero w cs ks h e a f debt = debt
-  turn_at m m1 pc sl p next K (suc t) w cs ks h e a f debt =
+      → ((l : ℕ) (w1 : World) → suc l ≤ m → Alike code l w1 cs ks → Owes code l s.levels s.end K (next w1 cs) → Halts code (running (at_work code s (pc + 1) sl st) s.levels w1 ks) s.end)
+      → Owes code m s.levels s.end K (go_on (turned t w cs) (λ _. next)) → Comes code s (row.turned t p (at_work code s pc sl st) s.levels w ks)
+  turn_at m m1 pc sl st p next K zero w cs ks h e a f debt = debt
+  turn_at m m1 pc sl st p next K (suc t) w cs ks h e a f debt =
       let few : w.turns ≤ m = a.few in
       let less : suc t ≤ m = Prim.omega (arith, few, e) in
       f t (record w { turns = t }) less (record { few = Prim.omega arith; made = a.made }) (owes_fewer code t m s.levels s.end (next (record w { turns = t }) cs) K (Prim.omega (arith, less)) debt)
 
-  pub turn_ok : (m pc : ℕ) (sl : List Slot) (p : Pos) (next : Act Flow) (K : Flow → World → List CodeClosure → Type 0) (w : World) (cs : List Closure) (ks : List CodeClosure) → slice_get s.placed pc ≡ Some (instr.Turn, p)
+  pub turn_ok : (m pc : ℕ) (sl : List Slot) (st : List Item) (p : Pos) (next : Act Flow) (K : Flow → World → List CodeClosure → Type 0) (w : World) (cs : List Closure) (ks : List CodeClosure) → slice_get s.placed pc ≡ Some (instr.Turn, p)
       → Alike code m w cs ks
-      → ((l : ℕ) (w1 : World) → suc l ≤ m → Alike code l w1 cs ks → Owes code l s.levels s.end K (next w1 cs) → Halts code (running (at_work code s (pc + 1) sl []) s.levels w1 ks) s.end)
-      → Owes code m s.levels s.end K (go_on (turn w cs) (λ _. next)) → Halts code (running (at_work code s pc sl []) s.levels w ks) s.end
-  turn_ok m pc sl p next K w cs ks h a f debt = does code s pc sl [] w ks instr.Turn p h (turn_at m m pc sl p next K w.turns w cs ks h refl a f debt)
+      → ((l : ℕ) (w1 : World) → suc l ≤ m → Alike code l w1 cs ks → Owes code l s.levels s.end K (next w1 cs) → Halts code (running (at_work code s (pc + 1) sl st) s.levels w1 ks) s.end)
+      → Owes code m s.levels s.end K (go_on (turn w cs) (λ _. next)) → Halts code (running (at_work code s pc sl st) s.levels w ks) s.end
+  turn_ok m pc sl st p next K w cs ks h a f debt = does code s pc sl st w ks instr.Turn p h (turn_at m m pc sl st p next K w.turns w cs ks h refl a f debt)
 
   -- ---- locals that begin
 
@@ -635,7 +635,7 @@ module _ (code : List Proto) (n c : ℕ) (call : Caller) (loop : Looper) (call_o
           let end : ℕ = pc + 2 + block_size b + exp_size e + 1 in
           let to : ℕ = pc + (2 + block_size b + exp_size e + 1) in
           let long : length sl2 ≡ length sl = kept.long in
-          turn_ok code s m (pc + 1) sl2 p (meant.exec_all call loop b (behind (exp_locals e) env) >>= (λ flow. next_turn env.bound flow (λ _. loop (while_again p e b) env)))
+          turn_ok code s m (pc + 1) sl2 [] p (meant.exec_all call loop b (behind (exp_locals e) env) >>= (λ flow. next_turn env.bound flow (λ _. loop (while_again p e b) env)))
           (Flows code s sc.free sc.own (sc.free + 0) sc.captured sl to brk) w1 cs1 ks1 has.1.0 a1
           (λ l w2 less a2 k2.
           moved code s (pc + 1 + 1) (pc + 2) sl2 [] w2 ks1 (Prim.omega arith)
@@ -663,7 +663,7 @@ module _ (code : List Proto) (n c : ℕ) (call : Caller) (loop : Looper) (call_o
       let pe : List Proto = exp_protos e se (base + block_functions b) in
       let q : HasAt code (base + block_functions b) pe = has_next code base (base + block_functions b) (block_protos b sc base) pe (ap (λ z. base + z) (block_count b sc base)) protos in
       let same_free : (behind_block b sc).free ≡ sc.free + block_declares b = free_behind b sc in
-      turn_ok code s m pc sl p _ (Flows code s sc.free sc.own (sc.free + 0) sc.captured sl to brk) w cs ks has.0 a
+      turn_ok code s m pc sl [] p _ (Flows code s sc.free sc.own (sc.free + 0) sc.captured sl to brk) w cs ks has.0 a
       (λ l w2 less a2 k2.
       sim l (Prim.omega (arith, less, le)) sc base (pc + 1) end sl env w2 cs ks (has_front s.placed (pc + 1) cb (ce ++ last) has.1) (has_front code base (block_protos b sc base) pe protos) v (Prim.omega (arith, room)) a2
       (owes_then code l s.levels s.end (meant.exec_all call loop b env w2 cs) _ (Flows code s sc.free (behind_block b sc).own (behind_block b sc).free sc.captured sl (pc + 1 + block_size b) end) (Flows code s sc.free sc.own (sc.free + 0) sc.captured sl to brk)
@@ -722,7 +722,7 @@ module _ (code : List Proto) (n c : ℕ) (call : Caller) (loop : Looper) (call_o
       let h1 : HasAt s.placed (turn_at + 4) (cb ++ last) = subst (λ z. HasAt s.placed z (cb ++ last)) four has.1.1.1.1 in
       let sl1 : List Slot = slice_set sl f3 (slot.Held (value.Int i)) in
       let long1 : length sl1 ≡ length sl = length_set sl f3 (slot.Held (value.Int i)) in
-      turn_ok code s m turn_at sl p (declare x (value.Int i) env >>= (λ env1. meant.exec_all call loop b env1 >>= (λ flow. next_turn env.bound flow (λ _. loop (counting x (i +ℤ step) limit step b) env))))
+      turn_ok code s m turn_at sl [] p (declare x (value.Int i) env >>= (λ env1. meant.exec_all call loop b env1 >>= (λ flow. next_turn env.bound flow (λ _. loop (counting x (i +ℤ step) limit step b) env))))
       (Flows code s sc.free sc.own (sc.free + 0) sc.captured sl to brk) w cs ks has.0 a
       (λ l w2 less a2 k2.
       let cell : ℕ = length w2.cells in
@@ -838,3 +838,116 @@ module _ (code : List Proto) (n c : ℕ) (call : Caller) (loop : Looper) (call_o
           inner (cut w2) d2 = d2
       regroup (raises x w1 cs1) d = d
       regroup (cut w1) d = d
+
+  prep_ok : (x : ℕ) (i limit step : ℤ) (b : Block) → BlockOk b → (m : ℕ) → m ≤ n → (p q : Pos) (sc : Scope) (base pc turn_at next brk : ℕ) (sl : List Slot) (env : Env) (w : World) (cs : List Closure) (ks : List CodeClosure)
+      → pc + 1 ≡ turn_at → HasAt s.placed turn_at (count_code code s p sc b next base turn_at) → HasAt code base (block_protos b (loop_scope code s 1 next sc) base) → Around code s sc x next env sl → Hidden code s sc (value.Int i) (value.Int limit) (value.Int step) sl
+      → sc.free + (4 + block_slots b) ≤ length sl → Alike code m w cs ks
+      → OwesFlow code s m sc.free sc.own (sc.free + 0) sc.captured sl (turn_at + 4 + block_size b + 1) brk (go_on (step_bound q step w cs) (λ step. meant.count_from call loop (λ env1. meant.exec_all call loop b env1) x i limit step b env))
+      → Comes code s (row.begin_loop (turn_at + 4 + block_size b + 1) i limit step q (at_work code s pc sl []) s.levels w ks)
+  prep_ok x i limit step b sim m le p q sc base pc turn_at next brk sl env w cs ks here has protos around hidden room a debt = by_step step hidden debt
+    where
+      branch : (step : ℤ) → Hidden code s sc (value.Int i) (value.Int limit) (value.Int step) sl → (t : Bool) → OwesFlow code s m sc.free sc.own (sc.free + 0) sc.captured sl (turn_at + 4 + block_size b + 1) brk
+            (either t (turn >> (declare x (value.Int i) env >>= (λ env1. meant.exec_all call loop b env1 >>= (λ flow. next_turn env.bound flow (λ _. loop (counting x (i +ℤ step) limit step b) env))))) (give (normal env.bound)) w cs)
+          → Comes code s (row.jump_where (not t) (turn_at + 4 + block_size b + 1) q (at_work code s pc sl []) s.levels w ks)
+      branch step hidden true k = moved code s (pc + 1) turn_at sl [] w ks here (count_turn x i limit step b sim m le p sc base turn_at next brk sl env w cs ks has protos around hidden room a k)
+      branch step hidden false k = k ks a sl (kept_same sc.free sl) (sees_kept sc.free (sc.free + 0) sc.own sc.captured env.bound sl sl s.captured (Prim.omega arith) (kept_same sc.free sl) around.bound)
+
+      by_step : (step : ℤ) → Hidden code s sc (value.Int i) (value.Int limit) (value.Int step) sl
+          → OwesFlow code s m sc.free sc.own (sc.free + 0) sc.captured sl (turn_at + 4 + block_size b + 1) brk (go_on (step_bound q step w cs) (λ step. meant.count_from call loop (λ env1. meant.exec_all call loop b env1) x i limit step b env))
+          → Comes code s (row.begin_loop (turn_at + 4 + block_size b + 1) i limit step q (at_work code s pc sl []) s.levels w ks)
+      by_step (pos zero) hidden k = k ks a
+      by_step (pos (suc z)) hidden k = branch (pos (suc z)) hidden (runs_for (pos (suc z)) limit i) k
+      by_step (negsuc z) hidden k = branch (negsuc z) hidden (runs_for (negsuc z) limit i) k
+
+  count_stat_ok : (p : Pos) (y : Name) (x z : Exp) (e : Step) (b : Block) → BlockOk b → StatOk (tree.count p y x z e b)
+  count_stat_ok p y x z e b sim m le sc base pc brk sl env w cs ks has protos v room a debt =
+      let free : ℕ = sc.free in
+      let first : ℕ = pc + exp_size x + 2 in
+      let second : ℕ = first + exp_size z + 2 in
+      let turn_at : ℕ = second + step_size e + 2 in
+      let behind_it : ℕ = turn_at + 4 + block_size b + 1 in
+      let to : ℕ = pc + (exp_size x + 2 + exp_size z + 2 + step_size e + 6 + block_size b + 1) in
+      let next : ℕ = sc.next + (1 + exp_locals x + exp_locals z + step_locals e) in
+      let sz : Scope = taken 1 (past (1 + exp_locals x) sc) in
+      let se : Scope = taken 2 (past (1 + exp_locals x + exp_locals z) sc) in
+      let base_z : ℕ = base + exp_functions x in
+      let base_e : ℕ = base + exp_functions x + exp_functions z in
+      let base_b : ℕ = base + exp_functions x + exp_functions z + step_functions e in
+      let cx : Placed = exp_code x (past 1 sc) base pc in
+      let cz : Placed = exp_code z sz base_z first in
+      let ce : Placed = step_code e p se base_e second in
+      let r3 : Placed = (instr.SetSlot (free + 2), p) ∷ (instr.ForPrep free behind_it, step_place e p) ∷ count_code code s p sc b next base_b turn_at in
+      let r2 : Placed = (instr.Bound, place_of z) ∷ (instr.SetSlot (free + 1), p) ∷ (ce ++ r3) in
+      let r1 : Placed = (instr.Bound, place_of x) ∷ (instr.SetSlot free, p) ∷ (cz ++ r2) in
+      let h1 : HasAt s.placed (pc + exp_size x) r1 = has_next s.placed pc (pc + exp_size x) cx r1 (ap (λ k. pc + k) (exp_length x (past 1 sc) base pc)) has in
+      let at1 : pc + exp_size x + 1 + 1 ≡ first = Prim.omega arith in
+      let g2 : HasAt s.placed first (cz ++ r2) = subst (λ k. HasAt s.placed k (cz ++ r2)) at1 h1.1.1 in
+      let h2 : HasAt s.placed (first + exp_size z) r2 = has_next s.placed first (first + exp_size z) cz r2 (ap (λ k. first + k) (exp_length z sz base_z first)) g2 in
+      let at2 : first + exp_size z + 1 + 1 ≡ second = Prim.omega arith in
+      let g3 : HasAt s.placed second (ce ++ r3) = subst (λ k. HasAt s.placed k (ce ++ r3)) at2 h2.1.1 in
+      let h3 : HasAt s.placed (second + step_size e) r3 = has_next s.placed second (second + step_size e) ce r3 (ap (λ k. second + k) (step_length e p se base_e second)) g3 in
+      let at3 : second + step_size e + 1 + 1 ≡ turn_at = Prim.omega arith in
+      let g4 : HasAt s.placed turn_at (count_code code s p sc b next base_b turn_at) = subst (λ k. HasAt s.placed k (count_code code s p sc b next base_b turn_at)) at3 h3.1.1 in
+      let px : List Proto = exp_protos x (past 1 sc) base in
+      let pz : List Proto = exp_protos z sz base_z in
+      let pe : List Proto = step_protos e se base_e in
+      let pb : List Proto = block_protos b (loop_scope code s 1 next sc) base_b in
+      let q1 : HasAt code base_z (pz ++ (pe ++ pb)) = has_next code base base_z px (pz ++ (pe ++ pb)) (ap (λ k. base + k) (exp_count x (past 1 sc) base)) protos in
+      let q2 : HasAt code base_e (pe ++ pb) = has_next code base_z base_e pz (pe ++ pb) (ap (λ k. base_z + k) (exp_count z sz base_z)) q1 in
+      let q3 : HasAt code base_b pb = has_next code base_e base_b pe pb (ap (λ k. base_e + k) (step_count e se base_e)) q2 in
+      let env_z : Env = behind (1 + exp_locals x) env in
+      let env_e : Env = behind (1 + exp_locals x + exp_locals z) env in
+      let env_b : Env = behind (1 + exp_locals x + exp_locals z + step_locals e) env in
+      let K : Flow → World → List CodeClosure → Type 0 = Flows code s free sc.own (free + 0) sc.captured sl to brk in
+      let last_act : ℤ → ℤ → ℤ → Act Flow = λ i limit step. meant.count_from call loop (λ env1. meant.exec_all call loop b env1) env.next i limit step b env_b in
+      exp_sim code n c call loop call_ok s deep x m le (past 1 sc) base pc sl [] (behind 1 env) w cs ks (has_front s.placed pc cx r1 has) (has_front code base px (pz ++ (pe ++ pb)) protos) (views_past 1 sc env sl s.captured s.rest v) (Prim.omega (arith, room)) a
+      (owes_then code m s.levels s.end (meant.eval call loop x (behind 1 env) w cs) _ (Pushed code n c call loop call_ok s deep free sl [] (pc + exp_size x)) K
+      (λ u w1 cs1 ks1 a1 k1 sl1 kept1.
+      does code s (pc + exp_size x) sl1 (item.One u ∷ []) w1 ks1 instr.Bound (place_of x) h1.0
+      (bound_ok u m (pc + exp_size x) sl1 (place_of x) (λ i. meant.eval call loop z env_z >>= (λ t. bound (place_of z) t >>= (λ limit. meant.eval_step call loop e env_e >>= (λ step. last_act i limit step)))) K w1 cs1 ks1 a1
+      (λ i k2.
+      let sl2 : List Slot = slice_set sl1 free (slot.Held (value.Int i)) in
+      let kept2 : Kept free sl sl2 = kept_on free free sl sl1 sl2 (Prim.omega arith) kept1 (kept_set free free sl1 (slot.Held (value.Int i)) (Prim.omega arith)) in
+      let long1 : length sl1 ≡ length sl = kept1.long in
+      let long2 : length sl2 ≡ length sl = kept2.long in
+      does code s (pc + exp_size x + 1) sl1 (item.One (value.Int i) ∷ []) w1 ks1 (instr.SetSlot free) p h1.1.0
+      (moved code s (pc + exp_size x + 1 + 1) first sl2 [] w1 ks1 at1
+      (exp_sim code n c call loop call_ok s deep z m le sz base_z first sl2 [] env_z w1 cs1 ks1 (has_front s.placed first cz r2 g2) (has_front code base_z pz (pe ++ pb) q1)
+      (views_taken 1 (past (1 + exp_locals x) sc) env_z sl2 s.captured s.rest (views_past (1 + exp_locals x) sc env sl2 s.captured s.rest (views_kept sc env sl sl2 s.captured s.rest kept2 v))) (Prim.omega (arith, room, long2)) a1
+      (owes_then code m s.levels s.end (meant.eval call loop z env_z w1 cs1) (λ t. bound (place_of z) t >>= (λ limit. meant.eval_step call loop e env_e >>= (λ step. last_act i limit step))) (Pushed code n c call loop call_ok s deep (free + 1) sl2 [] (first + exp_size z)) K
+      (λ t w2 cs2 ks2 a2 k3 sl3 kept3.
+      does code s (first + exp_size z) sl3 (item.One t ∷ []) w2 ks2 instr.Bound (place_of z) h2.0
+      (bound_ok t m (first + exp_size z) sl3 (place_of z) (λ limit. meant.eval_step call loop e env_e >>= (λ step. last_act i limit step)) K w2 cs2 ks2 a2
+      (λ limit k4.
+      let sl4 : List Slot = slice_set sl3 (free + 1) (slot.Held (value.Int limit)) in
+      let kept4 : Kept (free + 1) sl2 sl4 = kept_on (free + 1) (free + 1) sl2 sl3 sl4 (Prim.omega arith) kept3 (kept_set (free + 1) (free + 1) sl3 (slot.Held (value.Int limit)) (Prim.omega arith)) in
+      let kept40 : Kept free sl sl4 = kept_on free (free + 1) sl sl2 sl4 (Prim.omega arith) kept2 kept4 in
+      let long3 : length sl3 ≡ length sl2 = kept3.long in
+      let long4 : length sl4 ≡ length sl = kept40.long in
+      does code s (first + exp_size z + 1) sl3 (item.One (value.Int limit) ∷ []) w2 ks2 (instr.SetSlot (free + 1)) p h2.1.0
+      (moved code s (first + exp_size z + 1 + 1) second sl4 [] w2 ks2 at2
+      (step_ok e m le p se base_e second sl4 env_e (λ step. last_act i limit step) K w2 cs2 ks2 (has_front s.placed second ce r3 g3) (has_front code base_e pe pb q2)
+      (views_taken 2 (past (1 + exp_locals x + exp_locals z) sc) env_e sl4 s.captured s.rest (views_past (1 + exp_locals x + exp_locals z) sc env sl4 s.captured s.rest (views_kept sc env sl sl4 s.captured s.rest kept40 v))) (Prim.omega (arith, room, long4)) a2
+      (λ step sl5 w3 cs3 ks3 kept5 a3 k5.
+      let sl6 : List Slot = slice_set sl5 (free + 2) (slot.Held (value.Int step)) in
+      let kept6 : Kept (free + 2) sl4 sl6 = kept_on (free + 2) (free + 2) sl4 sl5 sl6 (Prim.omega arith) kept5 (kept_set (free + 2) (free + 2) sl5 (slot.Held (value.Int step)) (Prim.omega arith)) in
+      let kept60 : Kept free sl sl6 = kept_on free (free + 2) sl sl4 sl6 (Prim.omega arith) kept40 kept6 in
+      let long5 : length sl5 ≡ length sl4 = kept5.long in
+      let long6 : length sl6 ≡ length sl = kept60.long in
+      let hidden : Hidden code s sc (value.Int i) (value.Int limit) (value.Int step) sl6 = record {
+        first = kept6.low free (Prim.omega arith) ∙ kept4.low free (Prim.omega arith) ∙ get_set sl1 free (slot.Held (value.Int i)) (Prim.omega (arith, room, long1));
+        second = kept6.low (free + 1) (Prim.omega arith) ∙ get_set sl3 (free + 1) (slot.Held (value.Int limit)) (Prim.omega (arith, room, long3, long2));
+        third = get_set sl5 (free + 2) (slot.Held (value.Int step)) (Prim.omega (arith, room, long5, long4));
+      } in
+      let around : Around code s sc env.next next env_b sl6 = record {
+        names = v.names; number = sym v.next; after = ap (λ k. k + (1 + exp_locals x + exp_locals z + step_locals e)) v.next; more = v.more;
+        bound = sees_kept free free sc.own sc.captured env.bound sl sl6 s.captured (Prim.omega arith) kept60 v.bound;
+      } in
+      does code s (second + step_size e) sl5 (item.One (value.Int step) ∷ []) w3 ks3 (instr.SetSlot (free + 2)) p h3.0
+      (does code s (second + step_size e + 1) sl6 [] w3 ks3 (instr.ForPrep free behind_it) (step_place e p) h3.1.0
+      (comes_by code s _ _ (hidden_row (λ k limit step. row.begin_loop behind_it k limit step) (value.Int i) (value.Int limit) (value.Int step) sc (step_place e p) (second + step_size e + 1) sl6 w3 ks3 hidden)
+      (prep_ok env.next i limit step b sim m le p (step_place e p) sc base_b (second + step_size e + 1) turn_at next brk sl6 env_b w3 cs3 ks3 at3 g4 q3 around hidden (Prim.omega (arith, room, long6)) a3
+      (owes_flow_on code s m free free sc.own (free + 0) sc.captured sl sl6 behind_it to brk brk (Prim.omega arith) (Prim.omega arith) refl kept60 _ k5)))))
+      k4)))
+      k3)) k2))))
+      k1)) debt)
