@@ -38,7 +38,7 @@ use Rattle.lua_code.specs.Sizes.{exp_size, multi_size, exps_size, targets_size, 
 use Rattle.lua_code.specs.Generated.{Placed, one, Scope, past, taken, in_slots, declared, behind_stat, behind_block, from_own, from_captured, captured_from, write_local, write_use, use_in, store_instr, stores, target_count, set_slots, new_cells, begin_locals, exp_code, multi_code, list_code, step_code, step_place, iterate_code, stat_code, clauses_code, else_code, block_code, exp_protos, multi_protos, exps_protos, step_protos, stat_protos, clauses_protos, else_protos, block_protos}
 use Rattle.lua_code.proofs.Faithful.Lists.{HasAt, has_front, has_next, get_set, get_set_before, get_set_behind, length_set}
 use Rattle.lua_code.proofs.Faithful.Lengths.{exp_length, multi_length, list_length, step_length, set_slots_length, new_cells_length, begin_length, stores_length, stat_length, clauses_length, else_length, block_length, exp_count, multi_count, exps_count, step_count, stat_count, clauses_count, else_count, block_count}
-use Rattle.lua_code.proofs.Faithful.Agreement.{Halts, Alike, Owes, Given, Setting, end_with, owes_then, owes_map, owes_fewer, at_work, Comes, does, comes_by, moved}
+use Rattle.lua_code.proofs.Faithful.Agreement.{Halts, Alike, Owes, Given, Setting, end_with, owes_then, owes_map, owes_fewer, owes_caller, at_work, Comes, does, comes_by, moved}
 use Rattle.lua_code.proofs.Faithful.Names.{Kept, kept_same, kept_set, kept_on, kept_back, Sees, sees_kept, Found, in_slot, in_captured, nowhere as not_found, found}
 use Rattle.lua_code.proofs.Faithful.Expressions.{CallOk, Views, views_past, views_taken, views_kept, Pushed, Listed, Joined, ExpOk, ListOk, unrev, exp_sim, multi_sim, list_sim}
 
@@ -951,3 +951,120 @@ module _ (code : List Proto) (n c : ℕ) (call : Caller) (loop : Looper) (call_o
       k4)))
       k3)) k2))))
       k1)) debt)
+
+  -- ---- the generic `for`
+
+  each_turn : (q : Pos) (x k : ℕ) (iterator state : Value) (vs : List Value) (b : Block) → BlockOk b → (m : ℕ) → m ≤ n → (p : Pos) (sc : Scope) (base turn_at next brk : ℕ) (sl : List Slot) (env : Env) (w : World) (cs : List Closure) (ks : List CodeClosure)
+      → HasAt s.placed turn_at (each_code code s p q sc b k next base turn_at) → HasAt code base (block_protos b (loop_scope code s k next sc) base) → Around code s sc x next env sl → Hidden code s sc iterator state (first_of vs) sl
+      → sc.free + (3 + k + block_slots b) ≤ length sl → Alike code m w cs ks
+      → OwesFlow code s m sc.free sc.own (sc.free + 0) sc.captured sl (turn_at + 2 + k + k + block_size b + 13) brk
+        ((turn >> (declare_all x (adjust k vs) env >>= (λ env1. meant.exec_all call loop b env1 >>= (λ flow. next_turn env.bound flow (λ _. loop (iterating q x k iterator state (first_of vs) b) env))))) w cs)
+      → Halts code (running (at_work code s turn_at sl (item.Many vs ∷ [])) s.levels w ks) s.end
+  each_turn q x k iterator state vs b sim m le p sc base turn_at next brk sl env w cs ks has protos around hidden room a debt =
+      let f3 : ℕ = sc.free + 3 in
+      let sb : Scope = loop_scope code s k next sc in
+      let body_at : ℕ = turn_at + 2 + k + k in
+      let to : ℕ = turn_at + 2 + k + k + block_size b + 13 in
+      let cb : Placed = block_code b sb base body_at to in
+      let ci : Placed = iterate_code sc.free turn_at p q in
+      let two : turn_at + 1 + 1 ≡ turn_at + 2 = Prim.omega arith in
+      let h1 : HasAt s.placed (turn_at + 2) (begin_locals f3 k p ++ (cb ++ ci)) = subst (λ z. HasAt s.placed z (begin_locals f3 k p ++ (cb ++ ci))) two has.1.1 in
+      let after : turn_at + 2 + length (begin_locals f3 k p) ≡ body_at = let e : length (begin_locals f3 k p) ≡ k + k = begin_length k f3 p in Prim.omega (arith, e) in
+      let h2 : HasAt s.placed body_at (cb ++ ci) = has_next s.placed (turn_at + 2) body_at (begin_locals f3 k p) (cb ++ ci) after h1 in
+      turn_ok code s m turn_at sl (item.Many vs ∷ []) p (declare_all x (adjust k vs) env >>= (λ env1. meant.exec_all call loop b env1 >>= (λ flow. next_turn env.bound flow (λ _. loop (iterating q x k iterator state (first_of vs) b) env))))
+      (Flows code s sc.free sc.own (sc.free + 0) sc.captured sl to brk) w cs ks has.0 a
+      (λ l w2 less a2 k2.
+      does code s (turn_at + 1) sl (item.Many vs ∷ []) w2 ks (instr.Spread k) p has.1.0
+      (moved code s (turn_at + 1 + 1) (turn_at + 2) sl (row.spread (adjust k vs) []) w2 ks two
+      (begin_ok code s k vs l sc.next f3 (turn_at + 2) sl [] sc.own sc.captured env w2 cs ks p (has_front s.placed (turn_at + 2) (begin_locals f3 k p) (cb ++ ci) h1)
+      (sees_kept sc.free f3 sc.own sc.captured env.bound sl sl s.captured (Prim.omega arith) (kept_same sc.free sl) around.bound) (Prim.omega (arith, room)) a2
+      (owes_then code l s.levels s.end (declare_all sc.next (adjust k vs) env w2 cs) (λ env1. meant.exec_all call loop b env1 >>= (λ flow. next_turn env.bound flow (λ _. loop (iterating q x k iterator state (first_of vs) b) env)))
+        (Declared code s f3 (in_slots k sc.next f3 sc.own) (f3 + k) sc.captured sl env body_at []) (Flows code s sc.free sc.own (sc.free + 0) sc.captured sl to brk)
+      (λ env1 w3 cs3 ks3 a3 k3 sl2 kept2 sees same.
+      let long2 : length sl2 ≡ length sl = kept2.long in
+      let kept20 : Kept sc.free sl sl2 = record { long = kept2.long; low = λ j h. kept2.low j (Prim.omega (arith, h)) } in
+      sim l (Prim.omega (arith, less, le)) sb base body_at to sl2 env1 w3 cs3 ks3 (has_front s.placed body_at cb ci h2) protos
+      (record { names = around.names ∙ sym same.0; next = around.after ∙ sym same.1; more = same.2 ∙ around.more; bound = sees })
+      (Prim.omega (arith, room, long2)) a3
+      (owes_then code l s.levels s.end (meant.exec_all call loop b env1 w3 cs3) (λ flow. next_turn env.bound flow (λ _. loop (iterating q x k iterator state (first_of vs) b) env))
+        (Flows code s (f3 + k) (behind_block b sb).own (behind_block b sb).free sc.captured sl2 (body_at + block_size b) to) (Flows code s sc.free sc.own (sc.free + 0) sc.captured sl to brk)
+      (λ flow w4 cs4 ks4 a4 k4.
+      loop_flows code s l (f3 + k) sc.free (behind_block b sb).own sc.own (behind_block b sb).free (sc.free + 0) sc.captured sl2 sl (body_at + block_size b) to to brk env.bound (Prim.omega arith) kept20
+        (λ sl3 kept3. sees_kept sc.free (sc.free + 0) sc.own sc.captured env.bound sl sl3 s.captured (Prim.omega arith) kept3 around.bound) refl
+        (λ _. loop (iterating q x k iterator state (first_of vs) b) env) flow w4 cs4 ks4 a4
+      (λ inner k5 sl3 kept3 _.
+      let kept4 : Kept sc.free sl sl3 = kept_on sc.free (f3 + k) sl sl2 sl3 (Prim.omega arith) kept20 kept3 in
+      let long4 : length sl3 ≡ length sl = kept4.long in
+      loop_ok.eaches l (Prim.omega (arith, less, le)) q x k iterator state (first_of vs) b p sc base turn_at next brk sl3 env w4 cs4 ks4 has protos (around_on sc x next env sl sl3 kept4 around)
+      (record {
+        first = kept3.low sc.free (Prim.omega arith) ∙ kept2.low sc.free (Prim.omega arith) ∙ hidden.first;
+        second = kept3.low (sc.free + 1) (Prim.omega arith) ∙ kept2.low (sc.free + 1) (Prim.omega arith) ∙ hidden.second;
+        third = kept3.low (sc.free + 2) (Prim.omega arith) ∙ kept2.low (sc.free + 2) (Prim.omega arith) ∙ hidden.third;
+      })
+      (Prim.omega (arith, room, long4)) a4
+      (owes_flow_on code s l sc.free sc.free sc.own (sc.free + 0) sc.captured sl sl3 to to brk brk (Prim.omega arith) refl refl kept4 (loop (iterating q x k iterator state (first_of vs) b) env w4 cs4) k5)) k4) k3))
+      (subst (λ z. OwesFlow code s l sc.free sc.own (sc.free + 0) sc.captured sl to brk (go_on (declare_all z (adjust k vs) env w2 cs) (λ env1. meant.exec_all call loop b env1 >>= (λ flow. next_turn env.bound flow (λ _. loop (iterating q x k iterator state (first_of vs) b) env))))) around.number k2))))) debt
+
+  each_ok : (q : Pos) (x k : ℕ) (iterator state control : Value) (b : Block) → BlockOk b → (m : ℕ) → m ≤ n
+      → EachOk code s m q x k iterator state control b (λ env. meant.iterate call loop (λ env1. meant.exec_all call loop b env1) q x k iterator state control b env)
+  each_ok q x k iterator state control b sim m le p sc base turn_at next brk sl env w cs ks has protos around hidden room a debt =
+      let free : ℕ = sc.free in
+      let sb : Scope = loop_scope code s k next sc in
+      let body_at : ℕ = turn_at + 2 + k + k in
+      let to : ℕ = turn_at + 2 + k + k + block_size b + 13 in
+      let test : ℕ = turn_at + 2 + k + k + block_size b in
+      let cb : Placed = block_code b sb base body_at to in
+      let ci : Placed = iterate_code free turn_at p q in
+      let two : turn_at + 1 + 1 ≡ turn_at + 2 = Prim.omega arith in
+      let h1 : HasAt s.placed (turn_at + 2) (begin_locals (free + 3) k p ++ (cb ++ ci)) = subst (λ z. HasAt s.placed z (begin_locals (free + 3) k p ++ (cb ++ ci))) two has.1.1 in
+      let after : turn_at + 2 + length (begin_locals (free + 3) k p) ≡ body_at = let e : length (begin_locals (free + 3) k p) ≡ k + k = begin_length k (free + 3) p in Prim.omega (arith, e) in
+      let h2 : HasAt s.placed body_at (cb ++ ci) = has_next s.placed (turn_at + 2) body_at (begin_locals (free + 3) k p) (cb ++ ci) after h1 in
+      let h3 : HasAt s.placed test ci = has_next s.placed body_at test cb ci (ap (λ z. body_at + z) (block_length b sb base body_at to)) h2 in
+      does code s test sl [] w ks (instr.GetSlot free) p h3.0
+      (comes_by code s _ _ (ap (λ z. row.value_in z (λ v. row.push_value v) p (at_work code s test sl []) s.levels w ks) hidden.first)
+      (does code s (test + 1) sl (item.One iterator ∷ []) w ks (instr.GetSlot (free + 1)) p h3.1.0
+      (comes_by code s _ _ (ap (λ z. row.value_in z (λ v. row.push_value v) p (at_work code s (test + 1) sl (item.One iterator ∷ [])) s.levels w ks) hidden.second)
+      (does code s (test + 1 + 1) sl (item.One state ∷ item.One iterator ∷ []) w ks (instr.GetSlot (free + 2)) p h3.1.1.0
+      (comes_by code s _ _ (ap (λ z. row.value_in z (λ v. row.push_value v) p (at_work code s (test + 1 + 1) sl (item.One state ∷ item.One iterator ∷ [])) s.levels w ks) hidden.third)
+      (does code s (test + 1 + 1 + 1) sl (item.One control ∷ item.One state ∷ item.One iterator ∷ []) w ks (instr.Pack 2) p h3.1.1.1.0
+      (does code s (test + 1 + 1 + 1 + 1) sl (item.Many (state ∷ control ∷ []) ∷ item.One iterator ∷ []) w ks instr.Call q h3.1.1.1.1.0
+      (call_ok m le q iterator (state ∷ control ∷ []) w cs ks (caller (at_work code s (test + 1 + 1 + 1 + 1 + 1) sl []) ∷ s.levels) s.end deep a
+      (owes_caller code m (at_work code s (test + 1 + 1 + 1 + 1 + 1) sl []) s.levels s.end (call q iterator (state ∷ control ∷ []) w cs)
+        (λ vs w1 ks1. Halts code (running (at_work code s (test + 1 + 1 + 1 + 1 + 1) sl (item.Many vs ∷ [])) s.levels w1 ks1) s.end) (λ vs w1 ks1 h. h)
+      (owes_then code m s.levels s.end (call q iterator (state ∷ control ∷ []) w cs) _ (λ vs w1 ks1. Halts code (running (at_work code s (test + 1 + 1 + 1 + 1 + 1) sl (item.Many vs ∷ [])) s.levels w1 ks1) s.end) (Flows code s free sc.own (free + 0) sc.captured sl to brk)
+      (λ vs w1 cs1 ks1 a1 k1.
+      let got : Value = first_of vs in
+      let sl2 : List Slot = slice_set sl (free + 2) (slot.Held got) in
+      does code s (test + 1 + 1 + 1 + 1 + 1) sl (item.Many vs ∷ []) w1 ks1 instr.Dup p h3.1.1.1.1.1.0
+      (does code s (test + 1 + 1 + 1 + 1 + 1 + 1) sl (item.Many vs ∷ item.Many vs ∷ []) w1 ks1 instr.First p h3.1.1.1.1.1.1.0
+      (does code s (test + 1 + 1 + 1 + 1 + 1 + 1 + 1) sl (item.One got ∷ item.Many vs ∷ []) w1 ks1 instr.Dup p h3.1.1.1.1.1.1.1.0
+      (does code s (test + 1 + 1 + 1 + 1 + 1 + 1 + 1 + 1) sl (item.One got ∷ item.One got ∷ item.Many vs ∷ []) w1 ks1 (instr.SetSlot (free + 2)) p h3.1.1.1.1.1.1.1.1.0
+      (does code s (test + 1 + 1 + 1 + 1 + 1 + 1 + 1 + 1 + 1) sl2 (item.One got ∷ item.Many vs ∷ []) w1 ks1 instr.Nil p h3.1.1.1.1.1.1.1.1.1.0
+      (does code s (test + 1 + 1 + 1 + 1 + 1 + 1 + 1 + 1 + 1 + 1) sl2 (item.One value.Nil ∷ item.One got ∷ item.Many vs ∷ []) w1 ks1 instr.Eq p h3.1.1.1.1.1.1.1.1.1.1.0
+      (does code s (test + 1 + 1 + 1 + 1 + 1 + 1 + 1 + 1 + 1 + 1 + 1) sl2 (item.One (value.Bool (is_nil got)) ∷ item.Many vs ∷ []) w1 ks1 (instr.JumpIfNot turn_at) p h3.1.1.1.1.1.1.1.1.1.1.1.0
+      (branch vs w1 cs1 ks1 a1 h3.1.1.1.1.1.1.1.1.1.1.1.1.0 (is_nil got) k1)))))))) debt))))))))))
+    where
+      branch : (vs : List Value) (w1 : World) (cs1 : List Closure) (ks1 : List CodeClosure) → Alike code m w1 cs1 ks1
+          → slice_get s.placed (turn_at + 2 + k + k + block_size b + 1 + 1 + 1 + 1 + 1 + 1 + 1 + 1 + 1 + 1 + 1 + 1) ≡ Some (instr.Pop, p) → (t : Bool)
+          → OwesFlow code s m sc.free sc.own (sc.free + 0) sc.captured sl (turn_at + 2 + k + k + block_size b + 13) brk
+            (either t (give (normal env.bound)) (turn >> (declare_all x (adjust k vs) env >>= (λ env1. meant.exec_all call loop b env1 >>= (λ flow. next_turn env.bound flow (λ _. loop (iterating q x k iterator state (first_of vs) b) env))))) w1 cs1)
+          → Comes code s (row.jump_where (not t) turn_at p (at_work code s (turn_at + 2 + k + k + block_size b + 1 + 1 + 1 + 1 + 1 + 1 + 1 + 1 + 1 + 1 + 1) (slice_set sl (sc.free + 2) (slot.Held (first_of vs))) (item.Many vs ∷ [])) s.levels w1 ks1)
+      branch vs w1 cs1 ks1 a1 pop true k1 =
+          let sl2 : List Slot = slice_set sl (sc.free + 2) (slot.Held (first_of vs)) in
+          let kept : Kept sc.free sl sl2 = kept_set sc.free (sc.free + 2) sl (slot.Held (first_of vs)) (Prim.omega arith) in
+          let test : ℕ = turn_at + 2 + k + k + block_size b in
+          does code s (test + 1 + 1 + 1 + 1 + 1 + 1 + 1 + 1 + 1 + 1 + 1 + 1) sl2 (item.Many vs ∷ []) w1 ks1 instr.Pop p pop
+          (moved code s (test + 1 + 1 + 1 + 1 + 1 + 1 + 1 + 1 + 1 + 1 + 1 + 1 + 1) (test + 13) sl2 [] w1 ks1 (Prim.omega arith)
+          (k1 ks1 a1 sl2 kept (sees_kept sc.free (sc.free + 0) sc.own sc.captured env.bound sl sl2 s.captured (Prim.omega arith) kept around.bound)))
+      branch vs w1 cs1 ks1 a1 pop false k1 =
+          let sl2 : List Slot = slice_set sl (sc.free + 2) (slot.Held (first_of vs)) in
+          let kept : Kept sc.free sl sl2 = kept_set sc.free (sc.free + 2) sl (slot.Held (first_of vs)) (Prim.omega arith) in
+          let long : length sl2 ≡ length sl = kept.long in
+          each_turn q x k iterator state vs b sim m le p sc base turn_at next brk sl2 env w1 cs1 ks1 has protos (around_on sc x next env sl sl2 kept around)
+          (record {
+            first = get_set_before sl (sc.free + 2) sc.free (slot.Held (first_of vs)) (Prim.omega arith) ∙ hidden.first;
+            second = get_set_before sl (sc.free + 2) (sc.free + 1) (slot.Held (first_of vs)) (Prim.omega arith) ∙ hidden.second;
+            third = get_set sl (sc.free + 2) (slot.Held (first_of vs)) (Prim.omega (arith, room));
+          })
+          (Prim.omega (arith, room, long)) a1
+          (owes_flow_on code s m sc.free sc.free sc.own (sc.free + 0) sc.captured sl sl2 (turn_at + 2 + k + k + block_size b + 13) (turn_at + 2 + k + k + block_size b + 13) brk brk (Prim.omega arith) refl refl kept _ k1)
