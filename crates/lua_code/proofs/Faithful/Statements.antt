@@ -1068,3 +1068,137 @@ module _ (code : List Proto) (n c : ℕ) (call : Caller) (loop : Looper) (call_o
           })
           (Prim.omega (arith, room, long)) a1
           (owes_flow_on code s m sc.free sc.free sc.own (sc.free + 0) sc.captured sl sl2 (turn_at + 2 + k + k + block_size b + 13) (turn_at + 2 + k + k + block_size b + 13) brk brk (Prim.omega arith) refl refl kept _ k1)
+
+  three : (vs : List Value) → adjust 3 vs ≡ first_of vs ∷ first_of (drop 1 vs) ∷ first_of (drop 2 vs) ∷ []
+  three [] = refl
+  three (u ∷ []) = refl
+  three (u ∷ v ∷ []) = refl
+  three (u ∷ v ∷ t ∷ vs) = refl
+
+  each_stat_ok : (p : Pos) (ns : List Name) (es : Exps) (b : Block) → BlockOk b → StatOk (tree.each p ns es b)
+  each_stat_ok p ns es b sim m le sc base pc brk sl env w cs ks has protos v room a debt =
+      let k : ℕ = length ns in
+      let free : ℕ = sc.free in
+      let q : Pos = first_place p es in
+      let turn_at : ℕ = pc + exps_size es + 5 in
+      let test : ℕ = turn_at + 2 + k + k + block_size b in
+      let to : ℕ = pc + (exps_size es + 7 + k + k + block_size b + 13) in
+      let next : ℕ = sc.next + (k + exps_locals es) in
+      let base_b : ℕ = base + exps_functions es in
+      let ce : Placed = list_code es p 0 (past k sc) base pc in
+      let r1 : Placed = (instr.Spread 3, p) ∷ (instr.SetSlot (free + 2), p) ∷ (instr.SetSlot (free + 1), p) ∷ (instr.SetSlot free, p) ∷ (instr.Jump test, p) ∷ each_code code s p q sc b k next base_b turn_at in
+      let h1 : HasAt s.placed (pc + exps_size es) r1 = has_next s.placed pc (pc + exps_size es) ce r1 (ap (λ z. pc + z) (list_length es p 0 (past k sc) base pc)) has in
+      let five : pc + exps_size es + 1 + 1 + 1 + 1 + 1 ≡ turn_at = Prim.omega arith in
+      let g2 : HasAt s.placed turn_at (each_code code s p q sc b k next base_b turn_at) = subst (λ z. HasAt s.placed z (each_code code s p q sc b k next base_b turn_at)) five h1.1.1.1.1.1 in
+      let pb : List Proto = block_protos b (loop_scope code s k next sc) base_b in
+      let q1 : HasAt code base_b pb = has_next code base base_b (exps_protos es (past k sc) base) pb (ap (λ z. base + z) (exps_count es (past k sc) base)) protos in
+      let env_b : Env = behind (k + exps_locals es) env in
+      list_sim code n c call loop call_ok s deep es m le p 0 [] refl (past k sc) base pc sl [] (behind k env) w cs ks (has_front s.placed pc ce r1 has) (has_front code base (exps_protos es (past k sc) base) pb protos) (views_past k sc env sl s.captured s.rest v) (Prim.omega (arith, room)) a
+      (owes_then code m s.levels s.end (meant.eval_all call loop es (behind k env) w cs) _ (Joined code n c call loop call_ok s deep free sl [] [] (pc + exps_size es)) (Flows code s free sc.own (free + 0) sc.captured sl to brk)
+      (λ vs w1 cs1 ks1 a1 k1 sl1 kept1.
+      let u0 : Value = first_of vs in
+      let u1 : Value = first_of (drop 1 vs) in
+      let u2 : Value = first_of (drop 2 vs) in
+      let sl2 : List Slot = slice_set sl1 (free + 2) (slot.Held u2) in
+      let sl3 : List Slot = slice_set sl2 (free + 1) (slot.Held u1) in
+      let sl4 : List Slot = slice_set sl3 free (slot.Held u0) in
+      let long1 : length sl1 ≡ length sl = kept1.long in
+      let long2 : length sl2 ≡ length sl1 = length_set sl1 (free + 2) (slot.Held u2) in
+      let long3 : length sl3 ≡ length sl2 = length_set sl2 (free + 1) (slot.Held u1) in
+      let long4 : length sl4 ≡ length sl3 = length_set sl3 free (slot.Held u0) in
+      let kept : Kept free sl sl4 =
+            kept_on free free sl sl1 sl4 (Prim.omega arith) kept1 (kept_on free free sl1 sl2 sl4 (Prim.omega arith) (kept_set free (free + 2) sl1 (slot.Held u2) (Prim.omega arith))
+            (kept_on free free sl2 sl3 sl4 (Prim.omega arith) (kept_set free (free + 1) sl2 (slot.Held u1) (Prim.omega arith)) (kept_set free free sl3 (slot.Held u0) (Prim.omega arith)))) in
+      does code s (pc + exps_size es) sl1 (item.Many vs ∷ []) w1 ks1 (instr.Spread 3) p h1.0
+      (subst (λ z. Halts code (running (at_work code s (pc + exps_size es + 1) sl1 (row.spread z [])) s.levels w1 ks1) s.end) (sym (three vs))
+      (does code s (pc + exps_size es + 1) sl1 (item.One u2 ∷ item.One u1 ∷ item.One u0 ∷ []) w1 ks1 (instr.SetSlot (free + 2)) p h1.1.0
+      (does code s (pc + exps_size es + 1 + 1) sl2 (item.One u1 ∷ item.One u0 ∷ []) w1 ks1 (instr.SetSlot (free + 1)) p h1.1.1.0
+      (does code s (pc + exps_size es + 1 + 1 + 1) sl3 (item.One u0 ∷ []) w1 ks1 (instr.SetSlot free) p h1.1.1.1.0
+      (does code s (pc + exps_size es + 1 + 1 + 1 + 1) sl4 [] w1 ks1 (instr.Jump test) p h1.1.1.1.1.0
+      (each_ok q env.next k u0 u1 u2 b sim m le p sc base_b turn_at next brk sl4 env_b w1 cs1 ks1 g2 q1
+      (record { names = v.names; number = sym v.next; after = ap (λ z. z + (k + exps_locals es)) v.next; more = v.more; bound = sees_kept free free sc.own sc.captured env.bound sl sl4 s.captured (Prim.omega arith) kept v.bound })
+      (record {
+        first = get_set sl3 free (slot.Held u0) (Prim.omega (arith, room, long1, long2, long3));
+        second = get_set_behind sl3 free (free + 1) (slot.Held u0) (Prim.omega arith) ∙ get_set sl2 (free + 1) (slot.Held u1) (Prim.omega (arith, room, long1, long2));
+        third = get_set_behind sl3 free (free + 2) (slot.Held u0) (Prim.omega arith) ∙ get_set_behind sl2 (free + 1) (free + 2) (slot.Held u1) (Prim.omega arith) ∙ get_set sl1 (free + 2) (slot.Held u2) (Prim.omega (arith, room, long1));
+      })
+      (Prim.omega (arith, room, long1, long2, long3, long4)) a1
+      (owes_flow_on code s m free free sc.own (free + 0) sc.captured sl sl4 (turn_at + 2 + k + k + block_size b + 13) to brk brk (Prim.omega arith) (Prim.omega arith) refl kept _ k1)))))))) debt)
+
+  while_stat_ok : (p : Pos) (e : Exp) (b : Block) → BlockOk b → StatOk (tree.while p e b)
+  while_stat_ok p e b sim m le sc base pc brk sl env w cs ks has protos v room a debt =
+      does code s pc sl [] w ks (instr.Jump (pc + 2 + block_size b)) p has.0 (while_ok p e b sim m le sc base pc brk sl env w cs ks has protos v room a debt)
+
+  abbrev ElseOk : Else → Type 0
+  ElseOk x = (m : ℕ) → m ≤ n → (sc : Scope) (base pc brk : ℕ) (sl : List Slot) (env : Env) (w : World) (cs : List Closure) (ks : List CodeClosure)
+      → HasAt s.placed pc (else_code x sc base pc brk) → HasAt code base (else_protos x sc base) → Views sc env sl s.captured s.rest → sc.free + else_slots x ≤ length sl → Alike code m w cs ks
+      → OwesFlow code s m sc.free sc.own (sc.free + 0) sc.captured sl (pc + else_size x) brk (meant.exec_else call loop x env w cs)
+      → Halts code (running (at_work code s pc sl []) s.levels w ks) s.end
+
+  choose_ok : (p : Pos) (cl : Clauses) (x : Else) → ClausesOk cl → ElseOk x → StatOk (tree.choose p cl x)
+  choose_ok p cl x sims sim m le sc base pc brk sl env w cs ks has protos v room a debt =
+      let end : ℕ = pc + clauses_size cl + else_size x in
+      let to : ℕ = pc + (clauses_size cl + else_size x) in
+      let sx : Scope = past (clauses_locals cl) sc in
+      let cc1 : Placed = clauses_code cl p sc base pc end brk in
+      let cx : Placed = else_code x sx (base + clauses_functions cl) (pc + clauses_size cl) brk in
+      let h : HasAt s.placed (pc + clauses_size cl) cx = has_next s.placed pc (pc + clauses_size cl) cc1 cx (ap (λ z. pc + z) (clauses_length cl p sc base pc end brk)) has in
+      let px : List Proto = else_protos x sx (base + clauses_functions cl) in
+      let q : HasAt code (base + clauses_functions cl) px = has_next code base (base + clauses_functions cl) (clauses_protos cl sc base) px (ap (λ z. base + z) (clauses_count cl sc base)) protos in
+      sims m le p sc base pc end brk sl env w cs ks (meant.exec_else call loop x (behind (clauses_locals cl) env)) (has_front s.placed pc cc1 cx has) (has_front code base (clauses_protos cl sc base) px protos) v (Prim.omega (arith, room)) a
+      (owes_flow_on code s m sc.free sc.free sc.own (sc.free + 0) sc.captured sl sl end to brk brk (Prim.omega arith) (Prim.omega arith) refl (kept_same sc.free sl) _ debt)
+      (λ sl2 w1 cs1 ks1 kept a1 debt1.
+      let long : length sl2 ≡ length sl = kept.long in
+      sim m le sx (base + clauses_functions cl) (pc + clauses_size cl) brk sl2 (behind (clauses_locals cl) env) w1 cs1 ks1 h q (views_past (clauses_locals cl) sc env sl2 s.captured s.rest (views_kept sc env sl sl2 s.captured s.rest kept v)) (Prim.omega (arith, room, long)) a1
+      (owes_flow_on code s m sc.free sc.free sc.own (sc.free + 0) sc.captured sl sl2 (pc + clauses_size cl + else_size x) end brk brk (Prim.omega arith) refl refl kept _ debt1))
+
+  no_else_ok : ElseOk tree.no_else
+  no_else_ok m le sc base pc brk sl env w cs ks has protos v room a debt = nothing_ok m sc pc brk sl env w cs ks v a debt
+
+  else_do_ok : (b : Block) → BlockOk b → ElseOk (tree.else_do b)
+  else_do_ok b sim = scope_ok (record { «module» = 0; line = 1; column = 1 }) b sim
+
+  mutual
+    pub stat_sim : (x : Stat) → StatOk x
+    stat_sim (tree.empty p) = λ m le sc base pc brk sl env w cs ks has protos v room a debt. nothing_ok m sc pc brk sl env w cs ks v a debt
+    stat_sim (tree.assign p ts es) = assign_ok p ts es
+    stat_sim (tree.run p e) = run_ok p e
+    stat_sim (tree.leave p) = leave_ok p
+    stat_sim (tree.scope p b) = scope_ok p b (block_sim b)
+    stat_sim (tree.while p e b) = while_stat_ok p e b (block_sim b)
+    stat_sim (tree.repeat p b e) = repeat_ok p b e (block_sim b)
+    stat_sim (tree.choose p cl x) = choose_ok p cl x (clauses_sim cl) (else_sim x)
+    stat_sim (tree.count p y x z e b) = count_stat_ok p y x z e b (block_sim b)
+    stat_sim (tree.each p ns es b) = each_stat_ok p ns es b (block_sim b)
+    stat_sim (tree.define p e f) = define_ok p e f
+    stat_sim (tree.define_method p e y f) = λ m le sc base pc brk sl env w cs ks has protos v room a debt. nothing_ok m sc pc brk sl env w cs ks v a debt
+    stat_sim (tree.declare_function p y f) = declare_function_ok p y f
+    stat_sim (tree.declare p ns es) = declare_ok p ns es
+    stat_sim (tree.interface p y fs) = λ m le sc base pc brk sl env w cs ks has protos v room a debt. nothing_ok m sc pc brk sl env w cs ks v a debt
+    stat_sim (tree.alias p y t) = λ m le sc base pc brk sl env w cs ks has protos v room a debt. nothing_ok m sc pc brk sl env w cs ks v a debt
+
+    clauses_sim : (cl : Clauses) → ClausesOk cl
+    clauses_sim tree.no_clause = no_clause_ok
+    clauses_sim (tree.clause e b cl) = clause_ok e b cl (block_sim b) (clauses_sim cl)
+
+    else_sim : (x : Else) → ElseOk x
+    else_sim tree.no_else = no_else_ok
+    else_sim (tree.else_do b) = else_do_ok b (block_sim b)
+
+    pub block_sim : (b : Block) → BlockOk b
+    block_sim tree.finish = finish_ok
+    block_sim (tree.returns p es) = returns_ok p es
+    block_sim (tree.next x b) = next_ok x b (stat_sim x) (block_sim b)
+
+  -- what is left of a loop, at a level where the loops' further turns do what they mean
+  pub whiles_ok : (m : ℕ) → m ≤ n → (p : Pos) (e : Exp) (b : Block) → WhileOk code s m p e b (meant.go_round call loop (while_again p e b))
+  whiles_ok m le p e b = while_ok p e b (block_sim b) m le
+
+  pub repeats_ok : (m : ℕ) → m ≤ n → (p : Pos) (b : Block) (e : Exp) → RepeatOk code s m p b e (meant.go_round call loop (repeat_again p b e))
+  repeats_ok m le p b e = repeat_ok p b e (block_sim b) m le
+
+  pub counts_ok : (m : ℕ) → m ≤ n → (x : ℕ) (i limit step : ℤ) (b : Block) → CountOk code s m x i limit step b (meant.go_round call loop (counting x i limit step b))
+  counts_ok m le x i limit step b = count_ok x i limit step b (block_sim b) m le
+
+  pub eaches_ok : (m : ℕ) → m ≤ n → (q : Pos) (x k : ℕ) (iterator state control : Value) (b : Block) → EachOk code s m q x k iterator state control b (meant.go_round call loop (iterating q x k iterator state control b))
+  eaches_ok m le q x k iterator state control b = each_ok q x k iterator state control b (block_sim b) m le
