@@ -1,2 +1,2 @@
-mod Plain
-mod Vectors
+mod Marks
+pub mod Rows

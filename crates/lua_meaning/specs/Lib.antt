@@ -1,5 +1,9 @@
-pub mod Meaning
-pub mod Plain
-pub mod Program
-pub mod State
-pub mod Values
+pub mod Calls
+pub mod Environment
+pub mod Locals
+pub mod Operators
+pub mod Outcomes
+pub mod PlainPrograms
+pub mod Programs
+pub mod Trees
+pub mod World

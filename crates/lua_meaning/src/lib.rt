@@ -1,8 +1,6 @@
-//! The meaning of programs, as definitions: so far of straight-line modules.
+//! The meaning of programs, as definitions.
 #![tactic(auto)]
 
-mod laws;
-#[cfg(test)]
-mod tests;
+mod plain;
 
-pub use laws::marks_change_records_alone;
+pub use plain::plain_programs_run_alike;

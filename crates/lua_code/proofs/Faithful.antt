@@ -1,0 +1,7 @@
+-- The code of a program has its meaning.
+pub mod Lists
+pub mod Lengths
+pub mod Agreement
+pub mod Names
+pub mod Expressions
+pub mod Statements

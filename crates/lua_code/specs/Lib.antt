@@ -1,0 +1,7 @@
+pub mod Configurations
+pub mod Generated
+pub mod Instructions
+pub mod Listings
+pub mod Shapes
+pub mod Sizes
+pub mod Steps
