@@ -2,5 +2,7 @@
 #![tactic(auto)]
 
 mod plain;
+#[cfg(test)]
+mod tests;
 
 pub use plain::plain_programs_run_alike;

@@ -1,6 +1,6 @@
-use crate::marks_change_records_alone;
+use crate::plain_programs_run_alike;
 
 #[test]
 fn laws_compute_nothing() {
-    marks_change_records_alone();
+    plain_programs_run_alike();
 }

@@ -4,10 +4,10 @@ use Rattle.tl_base.specs.declared.place.Pos.{Pos}
 use Rattle.tl_base.specs.declared.place.ModuleKind.TheVariants.{Typed}
 use Rattle.tl_base.specs.declared.crossing.CrossKind.TheVariants as cross
 use Rattle.tl_base.specs.declared.refusal.RefusalCode.TheVariants as code
-use Rattle.lua_tree.specs.declared.tree.Operator.TheVariants as op
-use Rattle.lua_tree.specs.declared.tree.TypeName.TheVariants as named
-use Rattle.lua_tree.specs.Tree.{nothing, integer, text, name, binary, mark, Line, print, declare, assign}
-use Rattle.tl_types.specs.Order.{below, consistent}
+use Rattle.line_tree.specs.declared.tree.Operator.TheVariants as op
+use Rattle.line_tree.specs.declared.tree.TypeName.TheVariants as named
+use Rattle.line_tree.specs.Tree.{nothing, integer, text, name, binary, mark, Line, print, declare, assign}
+use Rattle.line_types.specs.Order.{below, consistent}
 use Rattle.tl_rules.specs.Checked.{Checked, fine, fault}
 use Rattle.tl_rules.specs.Rules.{check_module}
 

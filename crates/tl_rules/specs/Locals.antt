@@ -1,8 +1,8 @@
 -- What typing knows of locals.
 use Rattle.std.specs.Prelude.{ℕ, List, slice_index_or}
-use Rattle.tl_types.specs.declared.types.Ty.{Ty}
-use Rattle.tl_types.specs.declared.types.Ty.TheVariants as ty
-use Rattle.tl_types.specs.Types.{general_form}
+use Rattle.line_types.specs.declared.types.Ty.{Ty}
+use Rattle.line_types.specs.declared.types.Ty.TheVariants as ty
+use Rattle.line_types.specs.Types.{general_form}
 use Rattle.tl_rules.specs.declared.local.Local.{Local}
 
 -- the locals by their numbers

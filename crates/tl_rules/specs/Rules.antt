@@ -1,18 +1,18 @@
 -- The typing rules, by recursion on the tree: an environment and a tree give a type, the environment afterwards and the marked tree,
 -- or the first premise that fails. Typing follows the order of evaluation. Marks in the given tree say nothing: the rules set them.
--- The two orders are parameters, each a yes or no for a pair of types (`below` and `consistent` of `tl_types`).
+-- The two orders are parameters, each a yes or no for a pair of types (`below` and `consistent` of `line_types`).
 use Rattle.std.specs.Prelude.{ℕ, Bool, true, false, List, [], ◌∷◌, ◌++◌, Option, Some, None, slice_set}
 use Rattle.tl_base.specs.declared.place.Pos.{Pos}
 use Rattle.tl_base.specs.declared.place.ModuleKind.{ModuleKind}
 use Rattle.tl_base.specs.declared.place.ModuleKind.TheVariants.{Typed, Untyped}
 use Rattle.tl_base.specs.declared.crossing.CrossKind.TheVariants as cross
 use Rattle.tl_base.specs.declared.refusal.RefusalCode.TheVariants as code
-use Rattle.lua_tree.specs.declared.tree.Operator.{Operator}
-use Rattle.lua_tree.specs.declared.tree.TypeName.{TypeName}
-use Rattle.lua_tree.specs.Tree.{Exp, nothing, truth, integer, text, name, binary, mark, Line, print, declare, assign}
-use Rattle.lua_tree.specs.Shape.{place_of}
-use Rattle.tl_types.specs.declared.types.Ty.{Ty}
-use Rattle.tl_types.specs.declared.types.Ty.TheVariants as ty
+use Rattle.line_tree.specs.declared.tree.Operator.{Operator}
+use Rattle.line_tree.specs.declared.tree.TypeName.{TypeName}
+use Rattle.line_tree.specs.Tree.{Exp, nothing, truth, integer, text, name, binary, mark, Line, print, declare, assign}
+use Rattle.line_tree.specs.Shape.{place_of}
+use Rattle.line_types.specs.declared.types.Ty.{Ty}
+use Rattle.line_types.specs.declared.types.Ty.TheVariants as ty
 use Rattle.tl_rules.specs.Types.{type_named}
 use Rattle.tl_rules.specs.Locals.{Env, local_of, local_with, general_declared}
 use Rattle.tl_rules.specs.Checked.{Checked, fine, fault, then_check}

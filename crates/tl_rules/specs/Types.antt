@@ -1,8 +1,8 @@
 -- The type that a name stands for.
-use Rattle.lua_tree.specs.declared.tree.TypeName.{TypeName}
-use Rattle.lua_tree.specs.declared.tree.TypeName.TheVariants as named
-use Rattle.tl_types.specs.declared.types.Ty.{Ty}
-use Rattle.tl_types.specs.declared.types.Ty.TheVariants as ty
+use Rattle.line_tree.specs.declared.tree.TypeName.{TypeName}
+use Rattle.line_tree.specs.declared.tree.TypeName.TheVariants as named
+use Rattle.line_types.specs.declared.types.Ty.{Ty}
+use Rattle.line_types.specs.declared.types.Ty.TheVariants as ty
 
 abbrev pub type_named : TypeName → Ty
 type_named named.Nil = ty.Nil

@@ -8,5 +8,5 @@ mod tests;
 
 pub use laws::crossing_lists_are_unique;
 pub use local::{Local, declared_for, named_type};
-use lua_tree::TypeName;
-use tl_types::Ty;
+use line_tree::TypeName;
+use line_types::Ty;

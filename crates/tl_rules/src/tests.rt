@@ -1,5 +1,5 @@
 use crate::{Local, Ty, crossing_lists_are_unique, declared_for, named_type};
-use lua_tree::TypeName;
+use line_tree::TypeName;
 
 #[test]
 fn names_stand_for_types(rt: HostRuntime) {

@@ -3,19 +3,19 @@ use Rattle.std.proofs.Common.{◌≡◌, refl, ℕ, zero, suc, Bool, true, false
 use Rattle.std.specs.Prelude.{slice_index_or, slice_set}
 use Rattle.tl_base.specs.declared.place.Pos.{Pos}
 use Rattle.tl_base.specs.declared.crossing.CrossKind.{CrossKind}
-use Rattle.lua_tree.specs.declared.tree.Operator.{Operator}
-use Rattle.lua_tree.specs.declared.tree.TypeName.{TypeName}
-use Rattle.lua_tree.specs.Tree.{Exp, nothing, truth, integer, text, name, binary, mark, Line, print, declare, assign}
-use Rattle.lua_tree.specs.Shape.{place_of}
-use Rattle.tl_types.specs.declared.types.Ty.{Ty}
-use Rattle.tl_types.specs.declared.types.Ty.TheVariants as ty
+use Rattle.line_tree.specs.declared.tree.Operator.{Operator}
+use Rattle.line_tree.specs.declared.tree.TypeName.{TypeName}
+use Rattle.line_tree.specs.Tree.{Exp, nothing, truth, integer, text, name, binary, mark, Line, print, declare, assign}
+use Rattle.line_tree.specs.Shape.{place_of}
+use Rattle.line_types.specs.declared.types.Ty.{Ty}
+use Rattle.line_types.specs.declared.types.Ty.TheVariants as ty
 use Rattle.tl_rules.specs.declared.local.Local.{Local}
 use Rattle.tl_rules.specs.Locals.{Env, local_of, current_type, local_with}
 use Rattle.tl_rules.specs.Rules.{truth_type, operation_type}
-use Rattle.lua_meaning.specs.Values as value
-use Rattle.lua_meaning.specs.Values.{Value}
-use Rattle.lua_meaning.specs.State.{State, Ran, gives, raises, cut, write, pass}
-use Rattle.lua_meaning.specs.Meaning.{Frame, operate, eval, eval_all, printed, exec, exec_all}
+use Rattle.line_meaning.specs.Values as value
+use Rattle.line_meaning.specs.Values.{Value}
+use Rattle.line_meaning.specs.State.{State, Ran, gives, raises, cut, write, pass}
+use Rattle.line_meaning.specs.Meaning.{Frame, operate, eval, eval_all, printed, exec, exec_all}
 use Rattle.tl_sound.proofs.Keeps.{ends_then}
 use Rattle.tl_sound.proofs.Late.{Stands, Marked, pass_marked, operate_late, exp_late, exps_late, lines_late}
 use Rattle.tl_sound.proofs.Runs.{Good, Unless, After, late_after, after_then}

@@ -2,11 +2,11 @@
 use Rattle.std.proofs.Common.{ℕ, Bool, true, false, List, [], ◌∷◌, Option, Some, None}
 use Rattle.tl_base.specs.declared.place.Pos.{Pos}
 use Rattle.tl_base.specs.declared.crossing.CrossKind.TheVariants as cross
-use Rattle.lua_tree.specs.declared.tree.Operator.{Operator}
-use Rattle.lua_tree.specs.declared.tree.TypeName.{TypeName}
-use Rattle.lua_tree.specs.Tree.{Exp, nothing, truth, integer, text, name, binary, mark, Line, print, declare, assign}
-use Rattle.tl_types.specs.declared.types.Ty.{Ty}
-use Rattle.tl_types.specs.declared.types.Ty.TheVariants as ty
+use Rattle.line_tree.specs.declared.tree.Operator.{Operator}
+use Rattle.line_tree.specs.declared.tree.TypeName.{TypeName}
+use Rattle.line_tree.specs.Tree.{Exp, nothing, truth, integer, text, name, binary, mark, Line, print, declare, assign}
+use Rattle.line_types.specs.declared.types.Ty.{Ty}
+use Rattle.line_types.specs.declared.types.Ty.TheVariants as ty
 use Rattle.tl_rules.specs.Types.{type_named}
 use Rattle.tl_rules.specs.Locals.{Env, local_of}
 use Rattle.tl_rules.specs.Rules.{TypedExp, TypedExps, TypedLine, TypedLines, Flowed, operand, operation, flow_by, flow, check_exp, check_arguments, declaration, assignment, check_line, check_lines}

@@ -4,14 +4,14 @@ use Rattle.std.specs.Prelude.{Contains, flat_map}
 use Rattle.std.proofs.lemmas.List.Elements.{Contains-append_left, Contains-append_right}
 use Rattle.tl_base.specs.declared.place.Pos.{Pos}
 use Rattle.tl_base.specs.declared.crossing.Crossing.{Crossing}
-use Rattle.lua_tree.specs.declared.tree.Operator.{Operator}
-use Rattle.lua_tree.specs.Tree.{Exp, nothing, truth, integer, text, name, binary, mark, Line, print, declare, assign}
-use Rattle.lua_tree.specs.Shape.{place_of}
+use Rattle.line_tree.specs.declared.tree.Operator.{Operator}
+use Rattle.line_tree.specs.Tree.{Exp, nothing, truth, integer, text, name, binary, mark, Line, print, declare, assign}
+use Rattle.line_tree.specs.Shape.{place_of}
 use Rattle.tl_rules.specs.Crossings.{marks_of, line_marks, module_marks}
-use Rattle.lua_meaning.specs.Values as value
-use Rattle.lua_meaning.specs.Values.{Value}
-use Rattle.lua_meaning.specs.State.{State, Ran, gives, raises, cut, then_run, write, pass, kind_at, record_error}
-use Rattle.lua_meaning.specs.Meaning.{Frame, operate, eval, eval_all, printed, exec, exec_all}
+use Rattle.line_meaning.specs.Values as value
+use Rattle.line_meaning.specs.Values.{Value}
+use Rattle.line_meaning.specs.State.{State, Ran, gives, raises, cut, then_run, write, pass, kind_at, record_error}
+use Rattle.line_meaning.specs.Meaning.{Frame, operate, eval, eval_all, printed, exec, exec_all}
 
 -- the state in which a part of a run ends
 abbrev pub Ends : {A : Type 0} → (State → Type 0) → Ran A → Type 0

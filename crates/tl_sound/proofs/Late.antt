@@ -5,11 +5,11 @@ use Rattle.tl_base.specs.declared.place.Pos.{Pos}
 use Rattle.tl_base.specs.declared.place.ModuleKind.{ModuleKind}
 use Rattle.tl_base.specs.declared.place.ModuleKind.TheVariants.{Typed, Untyped}
 use Rattle.tl_base.specs.declared.crossing.Crossing.{Crossing}
-use Rattle.lua_tree.specs.declared.tree.Operator.{Operator}
-use Rattle.lua_tree.specs.Tree.{Exp, Line}
-use Rattle.lua_meaning.specs.Values.{Value}
-use Rattle.lua_meaning.specs.State.{KindError, State, first, write, pass, kind_at, record_error}
-use Rattle.lua_meaning.specs.Meaning.{Frame, operate, eval, eval_all, exec, exec_all}
+use Rattle.line_tree.specs.declared.tree.Operator.{Operator}
+use Rattle.line_tree.specs.Tree.{Exp, Line}
+use Rattle.line_meaning.specs.Values.{Value}
+use Rattle.line_meaning.specs.State.{KindError, State, first, write, pass, kind_at, record_error}
+use Rattle.line_meaning.specs.Meaning.{Frame, operate, eval, eval_all, exec, exec_all}
 use Rattle.tl_sound.specs.Laws.{HasMark}
 use Rattle.tl_sound.proofs.Keeps.{Ends, operate_keeps, exp_keeps, exps_keep, line_keeps, lines_keep}
 

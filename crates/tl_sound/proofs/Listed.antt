@@ -6,9 +6,9 @@ use Rattle.tl_base.specs.declared.place.ModuleKind.{ModuleKind}
 use Rattle.tl_base.specs.declared.place.ModuleKind.TheVariants.{Typed, Untyped}
 use Rattle.tl_base.specs.declared.crossing.Crossing.{Crossing}
 use Rattle.tl_rules.specs.Crossings.{module_marks, IsCrossingList}
-use Rattle.lua_meaning.specs.State.{KindError, State, Ran, gives, raises, cut, turn, first, write, pass, kind_at, record_error}
-use Rattle.lua_meaning.specs.Meaning.{Frame}
-use Rattle.lua_meaning.specs.Program.{Module, main_body, meaning, start, result_of}
+use Rattle.line_meaning.specs.State.{KindError, State, Ran, gives, raises, cut, turn, first, write, pass, kind_at, record_error}
+use Rattle.line_meaning.specs.Meaning.{Frame}
+use Rattle.line_meaning.specs.Program.{Module, main_body, meaning, start, result_of}
 use Rattle.tl_sound.proofs.Keeps.{Ends, lines_keep}
 
 -- both records name marks of the list alone

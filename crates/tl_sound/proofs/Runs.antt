@@ -2,7 +2,7 @@
 use Rattle.std.proofs.Common.{◌≡◌, refl, Option, Some, None}
 use Rattle.std.specs.Prelude.{IsSome}
 use Rattle.tl_base.specs.declared.crossing.Crossing.{Crossing}
-use Rattle.lua_meaning.specs.State.{State, Ran, gives, raises, cut, then_run}
+use Rattle.line_meaning.specs.State.{State, Ran, gives, raises, cut, then_run}
 use Rattle.tl_rules.specs.Checked.{Checked, fine, fault, then_check}
 use Rattle.tl_sound.proofs.Keeps.{Ends}
 use Rattle.tl_sound.proofs.Late.{Stands, Marked}

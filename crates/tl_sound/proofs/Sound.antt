@@ -4,15 +4,15 @@ use Rattle.std.specs.Prelude.{IfSome, IsSome, Contains}
 use Rattle.tl_base.specs.declared.place.ModuleKind.{ModuleKind}
 use Rattle.tl_base.specs.declared.place.ModuleKind.TheVariants.{Typed, Untyped}
 use Rattle.tl_base.specs.declared.crossing.Crossing.{Crossing}
-use Rattle.lua_tree.specs.Tree.{Line}
-use Rattle.tl_types.specs.Order.{below, consistent}
+use Rattle.line_tree.specs.Tree.{Line}
+use Rattle.line_types.specs.Order.{below, consistent}
 use Rattle.tl_rules.specs.Checked.{Checked, fine}
 use Rattle.tl_rules.specs.Crossings.{module_marks, IsCrossingList}
 use Rattle.tl_rules.specs.Locals.{Env}
 use Rattle.tl_rules.specs.Rules.{check_lines, check_module}
-use Rattle.lua_meaning.specs.State.{KindError, Ran, gives, raises, cut, turn}
-use Rattle.lua_meaning.specs.Meaning.{Frame, exec_all}
-use Rattle.lua_meaning.specs.Program.{Module, main_body, meaning, start, result_of}
+use Rattle.line_meaning.specs.State.{KindError, Ran, gives, raises, cut, turn}
+use Rattle.line_meaning.specs.Meaning.{Frame, exec_all}
+use Rattle.line_meaning.specs.Program.{Module, main_body, meaning, start, result_of}
 use Rattle.tl_sound.specs.Laws.{IsMarked, HasMark, IsAfterOneOf}
 use Rattle.tl_sound.proofs.Keeps.{Ends}
 use Rattle.tl_sound.proofs.Late.{Stands}

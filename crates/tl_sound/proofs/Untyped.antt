@@ -4,9 +4,9 @@ use Rattle.std.specs.Prelude.{slice_index_or}
 use Rattle.tl_base.specs.declared.place.Pos.{Pos}
 use Rattle.tl_base.specs.declared.place.ModuleKind.TheVariants.{Untyped}
 use Rattle.tl_base.specs.declared.crossing.Crossing.{Crossing}
-use Rattle.lua_tree.specs.Tree.{Line}
-use Rattle.lua_meaning.specs.State.{State, write, pass, kind_at, record_error}
-use Rattle.lua_meaning.specs.Meaning.{Frame, exec_all}
+use Rattle.line_tree.specs.Tree.{Line}
+use Rattle.line_meaning.specs.State.{State, write, pass, kind_at, record_error}
+use Rattle.line_meaning.specs.Meaning.{Frame, exec_all}
 use Rattle.tl_sound.proofs.Keeps.{Ends, lines_keep}
 
 pub record Quiet (s : State) : Type 0 where

@@ -1,11 +1,11 @@
 -- The words of the soundness laws.
 use Rattle.std.specs.Prelude.{◌≡◌, List, Some, Contains, IsSome}
 use Rattle.tl_base.specs.declared.crossing.Crossing.{Crossing}
-use Rattle.tl_types.specs.Order.{below, consistent}
+use Rattle.line_types.specs.Order.{below, consistent}
 use Rattle.tl_rules.specs.Checked.{fine}
 use Rattle.tl_rules.specs.Rules.{check_module}
-use Rattle.lua_meaning.specs.State.{KindError}
-use Rattle.lua_meaning.specs.Program.{Module}
+use Rattle.line_meaning.specs.State.{KindError}
+use Rattle.line_meaning.specs.Program.{Module}
 
 -- the rules take m, and m' is its marked form
 pub record IsMarked (m m' : Module) : Type 0 where

@@ -1,8 +1,8 @@
 ghost use Rattle.std.specs.Prelude.{◌≡◌, ℕ, List, [], ◌∷◌, IfSome, Contains};
 ghost use Rattle.tl_base.specs.declared.crossing.Crossing.{Crossing};
-ghost use Rattle.lua_tree.specs.Tree.{Line};
+ghost use Rattle.line_tree.specs.Tree.{Line};
 ghost use Rattle.tl_rules.specs.Crossings.{module_marks, IsCrossingList};
-ghost use Rattle.lua_meaning.specs.Program.{Module, main_body, meaning};
+ghost use Rattle.line_meaning.specs.Program.{Module, main_body, meaning};
 ghost use Rattle.tl_sound.specs.Laws.{IsMarked, HasMark, IsAfterOneOf};
 
 /// Soundness. The rules take a module m, and m' is its marked form; it is run with any file words, any input and any number of turns.

@@ -3,11 +3,11 @@ use Rattle.std.proofs.Common.{◌≡◌, refl, sym, ◌∙◌, ap, subst, ℕ, l
 use Rattle.std.proofs.lemmas.List.{map-append}
 use Rattle.tl_base.specs.declared.refusal.Failure.{Failure}
 use Rattle.tl_base.specs.declared.refusal.Failure.TheVariants as failure
-use Rattle.lua_tree.specs.declared.tree.Expr.{Expr}
-use Rattle.lua_tree.specs.declared.tree.Stat.{Stat}
-use Rattle.lua_tree.specs.Tree.{Exp, Line, exp_of, line_of, lines_of}
-use Rattle.tl_types.specs.declared.types.Ty.TheVariants as ty
-use Rattle.tl_types.specs.Order.{below, consistent}
+use Rattle.line_tree.specs.declared.tree.Expr.{Expr}
+use Rattle.line_tree.specs.declared.tree.Stat.{Stat}
+use Rattle.line_tree.specs.Tree.{Exp, Line, exp_of, line_of, lines_of}
+use Rattle.line_types.specs.declared.types.Ty.TheVariants as ty
+use Rattle.line_types.specs.Order.{below, consistent}
 use Rattle.tl_rules.specs.Checked.{Checked, fine, fault, then_check}
 use Rattle.tl_rules.specs.Locals.{Env}
 use Rattle.tl_rules.specs.Rules.{Flowed, TypedExps, TypedLines, check_exp, flow, check_arguments, check_line, check_lines}

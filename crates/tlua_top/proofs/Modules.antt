@@ -1,7 +1,7 @@
 -- What the reader's two halves say of a whole text.
 use Rattle.std.proofs.Common.{◌≡◌, List, [], Some, None, Result, Ok, Err, ◌∙◌, ap}
-use Rattle.lua_tree.specs.declared.tree.Stat.{Stat}
-use Rattle.lua_tree.specs.Tree.{Line, lines_of}
+use Rattle.line_tree.specs.declared.tree.Stat.{Stat}
+use Rattle.line_tree.specs.Tree.{Line, lines_of}
 use Rattle.tlua_top.specs.declared.reader.ReadError.{ReadError}
 use Rattle.tlua_top.specs.declared.reader.ReadError.TheVariants.{NotOfThisForm, NoMemory}
 use Rattle.tlua_top.specs.Tokens.{Text, Cut, Cuts}

@@ -3,10 +3,10 @@ use Rattle.std.proofs.Common.{◌≡◌, ℕ, ◌+◌, ◌<◌, ◌≤◌, false
 use Rattle.std.specs.Prelude.{nat_le}
 use Rattle.std.proofs.lemmas.Bool.Decides.{nat_tests}
 use Rattle.tl_base.specs.declared.place.Pos.{Pos}
-use Rattle.lua_tree.specs.declared.tree.Operator.{Operator}
-use Rattle.lua_tree.specs.declared.tree.Operator.TheVariants as operator
-use Rattle.lua_tree.specs.Tree.{Exp, binary, Line, print, declare, assign}
-use Rattle.lua_tree.specs.Shape.{place_of}
+use Rattle.line_tree.specs.declared.tree.Operator.{Operator}
+use Rattle.line_tree.specs.declared.tree.Operator.TheVariants as operator
+use Rattle.line_tree.specs.Tree.{Exp, binary, Line, print, declare, assign}
+use Rattle.line_tree.specs.Shape.{place_of}
 use Rattle.tlua_top.specs.declared.reader.token.Symbol.TheVariants as sign
 use Rattle.tlua_top.specs.declared.reader.token.Word.{Word}
 use Rattle.tlua_top.specs.declared.reader.token.Word.TheVariants as word

@@ -2,12 +2,12 @@
 use Rattle.std.proofs.Common.{◌≡◌, List, [], None, Ok, Err, sym, ◌∙◌, ap}
 use Rattle.std.specs.Option.{option_map}
 use Rattle.tl_base.specs.declared.place.ModuleKind.{ModuleKind}
-use Rattle.lua_tree.specs.Tree.{Line}
-use Rattle.lua_meaning.specs.Values as v
-use Rattle.lua_meaning.specs.State.{Ran, gives, raises}
-use Rattle.lua_meaning.specs.Program as program
-use Rattle.lua_meaning.specs.Program.{start, result_of, ended}
-use Rattle.lua_meaning.specs.Meaning.{Frame, exec_all}
+use Rattle.line_tree.specs.Tree.{Line}
+use Rattle.line_meaning.specs.Values as v
+use Rattle.line_meaning.specs.State.{Ran, gives, raises}
+use Rattle.line_meaning.specs.Program as program
+use Rattle.line_meaning.specs.Program.{start, result_of, ended}
+use Rattle.line_meaning.specs.Meaning.{Frame, exec_all}
 use Rattle.tlua_top.specs.declared.run.Outcome.TheVariants as outcome
 use Rattle.tlua_top.specs.declared.run.Ran.{Ran as TheRan}
 use Rattle.tlua_top.specs.declared.run.state.Machine.{Machine}

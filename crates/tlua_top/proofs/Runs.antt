@@ -7,15 +7,15 @@ use Rattle.std.proofs.lemmas.Int.{to_z-of_z}
 use Rattle.std.proofs.Math.ListN.{drop_of_length-le}
 use Rattle.tl_base.specs.declared.place.Pos.{Pos}
 use Rattle.tl_base.specs.declared.crossing.CrossKind.{CrossKind}
-use Rattle.lua_tree.specs.declared.tree.Operator.{Operator}
-use Rattle.lua_tree.specs.declared.tree.Expr.{Expr}
-use Rattle.lua_tree.specs.declared.tree.Stat.{Stat}
-use Rattle.lua_tree.specs.Tree.{Exp, Line, binary, mark, exp_of, line_of, lines_of}
-use Rattle.lua_tree.specs.Shape.{place_of}
-use Rattle.lua_meaning.specs.Values as v
-use Rattle.lua_meaning.specs.Values.{kind_of, text_of}
-use Rattle.lua_meaning.specs.State.{State, Ran, gives, pass, raise_kind, write}
-use Rattle.lua_meaning.specs.Meaning.{Frame, arithmetic_on, apply, operate, eval, eval_all, printed, exec, exec_all}
+use Rattle.line_tree.specs.declared.tree.Operator.{Operator}
+use Rattle.line_tree.specs.declared.tree.Expr.{Expr}
+use Rattle.line_tree.specs.declared.tree.Stat.{Stat}
+use Rattle.line_tree.specs.Tree.{Exp, Line, binary, mark, exp_of, line_of, lines_of}
+use Rattle.line_tree.specs.Shape.{place_of}
+use Rattle.line_meaning.specs.Values as v
+use Rattle.line_meaning.specs.Values.{kind_of, text_of}
+use Rattle.line_meaning.specs.State.{State, Ran, gives, pass, raise_kind, write}
+use Rattle.line_meaning.specs.Meaning.{Frame, arithmetic_on, apply, operate, eval, eval_all, printed, exec, exec_all}
 use Rattle.tlua_top.specs.declared.run.value.Value.{Value}
 use Rattle.tlua_top.specs.declared.run.state.Stop.{Stop}
 use Rattle.tlua_top.specs.declared.run.state.Stop.TheVariants as stop

@@ -2,9 +2,9 @@
 use Rattle.std.specs.Prelude.{◌≡◌, List, map, Ok, Err, Result}
 use Rattle.tl_base.specs.declared.refusal.Failure.{Failure}
 use Rattle.tl_base.specs.declared.refusal.Failure.TheVariants as failure
-use Rattle.lua_tree.specs.declared.tree.Expr.{Expr}
-use Rattle.lua_tree.specs.declared.tree.Stat.{Stat}
-use Rattle.lua_tree.specs.Tree.{exp_of, line_of, lines_of}
+use Rattle.line_tree.specs.declared.tree.Expr.{Expr}
+use Rattle.line_tree.specs.declared.tree.Stat.{Stat}
+use Rattle.line_tree.specs.Tree.{exp_of, line_of, lines_of}
 use Rattle.tl_rules.specs.Checked.{Checked, fine, fault}
 use Rattle.tl_rules.specs.Locals.{Env}
 use Rattle.tl_rules.specs.Rules.{TypedExp, TypedExps, TypedLine, TypedLines, Flowed}

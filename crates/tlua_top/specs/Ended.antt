@@ -6,13 +6,13 @@ use Rattle.tl_base.specs.declared.refusal.RefusalCode.TheVariants as code
 use Rattle.tl_base.specs.declared.refusal.Refusal.{Refusal}
 use Rattle.tl_base.specs.declared.refusal.Failure.{Failure}
 use Rattle.tl_base.specs.declared.refusal.Failure.TheVariants as failure
-use Rattle.lua_tree.specs.Tree.{Line, lines_of}
-use Rattle.tl_types.specs.Order.{below, consistent}
+use Rattle.line_tree.specs.Tree.{Line, lines_of}
+use Rattle.line_types.specs.Order.{below, consistent}
 use Rattle.tl_rules.specs.Checked.{fine, fault}
 use Rattle.tl_rules.specs.Rules.{check_module}
 use Rattle.tl_rules.specs.Crossings.{module_marks, IsCrossingList}
-use Rattle.lua_meaning.specs.Values as v
-use Rattle.lua_meaning.specs.Program as program
+use Rattle.line_meaning.specs.Values as v
+use Rattle.line_meaning.specs.Program as program
 use Rattle.tlua_top.specs.declared.check.Checked.{Checked}
 use Rattle.tlua_top.specs.declared.ended.Ended.{Ended}
 use Rattle.tlua_top.specs.declared.run.Outcome.{Outcome}

@@ -2,11 +2,11 @@
 use Rattle.std.specs.Prelude.{◌≡◌, ℕ, ◌+◌, ◌<◌, ◌≤◌, true, false, List, [], ◌∷◌, ◌++◌, length, Option, Some, None, codes, if◌then◌else◌, bytes_eq}
 use Rattle.std.specs.Option.{option_map}
 use Rattle.tl_base.specs.declared.place.Pos.{Pos}
-use Rattle.lua_tree.specs.declared.tree.Operator.TheVariants as operator
-use Rattle.lua_tree.specs.declared.tree.TypeName.{TypeName}
-use Rattle.lua_tree.specs.declared.tree.TypeName.TheVariants as named
-use Rattle.lua_tree.specs.Tree.{Exp, nothing, truth, integer, text, name, binary, Line, print, declare, assign}
-use Rattle.lua_tree.specs.Shape.{place_of}
+use Rattle.line_tree.specs.declared.tree.Operator.TheVariants as operator
+use Rattle.line_tree.specs.declared.tree.TypeName.{TypeName}
+use Rattle.line_tree.specs.declared.tree.TypeName.TheVariants as named
+use Rattle.line_tree.specs.Tree.{Exp, nothing, truth, integer, text, name, binary, Line, print, declare, assign}
+use Rattle.line_tree.specs.Shape.{place_of}
 use Rattle.tlua_top.specs.declared.reader.token.Symbol.TheVariants as sign
 use Rattle.tlua_top.specs.declared.reader.token.Word.{Word}
 use Rattle.tlua_top.specs.declared.reader.token.Word.TheVariants as word

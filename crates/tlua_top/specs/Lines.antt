@@ -4,9 +4,9 @@ use Rattle.tl_base.specs.declared.place.Pos.{Pos}
 use Rattle.tl_base.specs.declared.crossing.Crossing.{Crossing}
 use Rattle.tl_base.specs.declared.refusal.RefusalCode.{RefusalCode}
 use Rattle.tl_base.specs.Names.{cross_name, code_name}
-use Rattle.lua_meaning.specs.Values.{text_of}
-use Rattle.lua_meaning.specs.State.{KindError}
-use Rattle.lua_meaning.specs.Program.{Outcome, normal, failed, spent}
+use Rattle.line_meaning.specs.Values.{text_of}
+use Rattle.line_meaning.specs.State.{KindError}
+use Rattle.line_meaning.specs.Program.{Outcome, normal, failed, spent}
 use Rattle.tlua_top.specs.Tokens.{Text}
 
 abbrev pub usage_line : Text

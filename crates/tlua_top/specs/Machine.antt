@@ -1,11 +1,11 @@
 -- How the reader comes from token to token: an automaton, which is shown to read what the grammar spells and no more.
 use Rattle.std.specs.Prelude.{ℕ, ◌+◌, List, [], ◌∷◌, ◌++◌, length, Option, Some, None, nat_le, if◌then◌else◌}
 use Rattle.tl_base.specs.declared.place.Pos.{Pos}
-use Rattle.lua_tree.specs.declared.tree.Operator.{Operator}
-use Rattle.lua_tree.specs.declared.tree.Operator.TheVariants as operator
-use Rattle.lua_tree.specs.declared.tree.TypeName.{TypeName}
-use Rattle.lua_tree.specs.Tree.{Exp, binary, Line, print, declare, assign}
-use Rattle.lua_tree.specs.Shape.{place_of}
+use Rattle.line_tree.specs.declared.tree.Operator.{Operator}
+use Rattle.line_tree.specs.declared.tree.Operator.TheVariants as operator
+use Rattle.line_tree.specs.declared.tree.TypeName.{TypeName}
+use Rattle.line_tree.specs.Tree.{Exp, binary, Line, print, declare, assign}
+use Rattle.line_tree.specs.Shape.{place_of}
 use Rattle.tlua_top.specs.declared.reader.token.Symbol.{Symbol}
 use Rattle.tlua_top.specs.declared.reader.token.Symbol.TheVariants as sign
 use Rattle.tlua_top.specs.declared.reader.token.Word.{Word}

@@ -1,8 +1,8 @@
 -- The reader's state, seen as the automaton's.
 use Rattle.std.specs.Prelude.{◌≡◌, ◌≤◌, List, length, map, reverse, Option, Some, None, Result, Ok, Err}
 use Rattle.std.specs.Option.{option_map}
-use Rattle.lua_tree.specs.declared.tree.Operator.{Operator}
-use Rattle.lua_tree.specs.Tree.{Exp, Line, exp_of, lines_of}
+use Rattle.line_tree.specs.declared.tree.Operator.{Operator}
+use Rattle.line_tree.specs.Tree.{Exp, Line, exp_of, lines_of}
 use Rattle.tlua_top.specs.declared.reader.ReadError.{ReadError}
 use Rattle.tlua_top.specs.declared.reader.ReadError.TheVariants.{NotOfThisForm, NoMemory}
 use Rattle.tlua_top.specs.declared.reader.stage.Done.{Done}

@@ -2,12 +2,12 @@
 use Rattle.std.specs.Prelude.{◌≡◌, ℕ, List, [], ◌∷◌, ◌++◌, map, flat_map, Option, Result, Ok, Err}
 use Rattle.std.specs.Option.{option_map}
 use Rattle.tl_base.specs.declared.place.Pos.{Pos}
-use Rattle.lua_tree.specs.declared.tree.TypeName.{TypeName}
-use Rattle.lua_tree.specs.Tree.{Exp, print, declare, assign}
-use Rattle.lua_meaning.specs.Meaning.{Frame, exec}
-use Rattle.lua_meaning.specs.Values as v
-use Rattle.lua_meaning.specs.Values.{text_of}
-use Rattle.lua_meaning.specs.State.{KindError, State, Ran, gives, raises, then_run}
+use Rattle.line_tree.specs.declared.tree.TypeName.{TypeName}
+use Rattle.line_tree.specs.Tree.{Exp, print, declare, assign}
+use Rattle.line_meaning.specs.Meaning.{Frame, exec}
+use Rattle.line_meaning.specs.Values as v
+use Rattle.line_meaning.specs.Values.{text_of}
+use Rattle.line_meaning.specs.State.{KindError, State, Ran, gives, raises, then_run}
 use Rattle.tlua_top.specs.declared.run.value.Value.{Value}
 use Rattle.tlua_top.specs.declared.run.value.Value.TheVariants as value
 use Rattle.tlua_top.specs.declared.run.state.Stop.{Stop}

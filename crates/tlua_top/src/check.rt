@@ -5,13 +5,13 @@ mod statements;
 mod tests;
 
 ghost use Rattle.std.specs.Prelude.{◌≡◌, IfOk};
-ghost use Rattle.lua_tree.specs.Tree.{lines_of};
-ghost use Rattle.tl_types.specs.Order.{below, consistent};
+ghost use Rattle.line_tree.specs.Tree.{lines_of};
+ghost use Rattle.line_types.specs.Order.{below, consistent};
 ghost use Rattle.tl_rules.specs.Rules.{check_module};
 ghost use Rattle.tl_rules.specs.Crossings.{module_marks, IsCrossingList};
 ghost use Rattle.tlua_top.specs.Check.{Answers};
 
-use lua_tree::Chunk;
+use line_tree::Chunk;
 use marks::crossing_list;
 use statements::statements;
 use std::alloc::Global;

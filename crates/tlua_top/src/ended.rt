@@ -6,7 +6,7 @@ ghost use Rattle.std.specs.Option.{option_map};
 ghost use Rattle.tl_edge.specs.Edge.{HasCause};
 ghost use Rattle.tl_edge.specs.Files.{bytes_of};
 ghost use Rattle.tl_edge.specs.declared.outside.FileBytes.{FileBytes as TheFile};
-ghost use Rattle.lua_tree.specs.Tree.{exp_of, line_of, lines_of};
+ghost use Rattle.line_tree.specs.Tree.{exp_of, line_of, lines_of};
 ghost use Rattle.tlua_top.specs.Outcome.{only_reports};
 ghost use Rattle.tlua_top.specs.Lines.{usage_line, first_crossing, kind_line, kind_lines, last_line};
 ghost use Rattle.tlua_top.specs.Defined.{file_to_run, kind_to_read, whole_file, refused, ran, run_of, is_sum, is_untyped_argument, is_untyped_line, admits, OfText, OfFile, Defined};
@@ -22,7 +22,7 @@ use crate::report::{
 use crate::run::{FirstError, Outcome, Ran, run};
 use crate::status::Status;
 use crate::words::{file_to_run, kind_of_word};
-use lua_tree::{Chunk, Expr, Stat};
+use line_tree::{Chunk, Expr, Stat};
 use std::alloc::Global;
 use tl_base::{Bytes, Crossing, Failure, ModuleKind, NoMemory, Pos, Refusal, RefusalCode};
 use tl_edge::{Files, FilesError, Found};

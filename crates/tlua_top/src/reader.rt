@@ -13,7 +13,7 @@ use crate::reader::cut::cut;
 use crate::reader::stage::{Done, Reader, Stage};
 use crate::reader::step::{last, step};
 use crate::reader::token::Token;
-use lua_tree::Stat;
+use line_tree::Stat;
 use std::alloc::Global;
 use tl_base::{List, NoMemory};
 

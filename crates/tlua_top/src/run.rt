@@ -1,7 +1,7 @@
 //! The run of a straight-line module.
 
 ghost use Rattle.std.specs.Prelude.{◌≡◌, ℕ, List, IfOk};
-ghost use Rattle.lua_tree.specs.Tree.{lines_of};
+ghost use Rattle.line_tree.specs.Tree.{lines_of};
 ghost use Rattle.tlua_top.specs.Defined.{run_of};
 ghost use Rattle.tlua_top.specs.Ended.{IsRun};
 
@@ -13,7 +13,7 @@ mod value;
 use crate::run::execute::execute_all;
 pub use crate::run::state::FirstError;
 use crate::run::state::{Machine, Stop};
-use lua_tree::Chunk;
+use line_tree::Chunk;
 use std::alloc::Global;
 use tl_base::{Bytes, NoMemory, Turns};
 

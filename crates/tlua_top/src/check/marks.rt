@@ -1,9 +1,9 @@
 ghost use Rattle.std.specs.Prelude.{◌≡◌, ◌++◌, IfOk, OnOk, flat_map, map};
-ghost use Rattle.lua_tree.specs.Tree.{exp_of, line_of, lines_of};
+ghost use Rattle.line_tree.specs.Tree.{exp_of, line_of, lines_of};
 ghost use Rattle.tl_rules.specs.Crossings.{marks_of, line_marks, module_marks, IsCrossingList};
 
 use crate::check::expressions::place;
-use lua_tree::{Expr, Stat};
+use line_tree::{Expr, Stat};
 use std::alloc::Global;
 use tl_base::{Crossing, List, NoMemory};
 

@@ -1,5 +1,5 @@
 use crate::check::{Checked, check_chunk};
-use lua_tree::{Chunk, Expr, Operator, Stat, TypeName};
+use line_tree::{Chunk, Expr, Operator, Stat, TypeName};
 use std::alloc::Global;
 use std::test::Fail;
 use tl_base::{

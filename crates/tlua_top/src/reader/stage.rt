@@ -1,4 +1,4 @@
-use lua_tree::{Expr, Operator, Stat, TypeName};
+use line_tree::{Expr, Operator, Stat, TypeName};
 use tl_base::{Bytes, List, Pos};
 
 /// The locals and the statements so far. The newest local's name stands last.

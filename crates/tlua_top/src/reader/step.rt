@@ -1,7 +1,7 @@
 ghost use Rattle.std.specs.Prelude.{◌≡◌, ◌≤◌, ◌∷◌, [], ◌++◌, length, nat_le, if◌then◌else◌, IfOk};
 ghost use Rattle.std.specs.Option.{option_map};
-ghost use Rattle.lua_tree.specs.Shape.{place_of};
-ghost use Rattle.lua_tree.specs.Tree.{exp_of, line_of, lines_of, binary};
+ghost use Rattle.line_tree.specs.Shape.{place_of};
+ghost use Rattle.line_tree.specs.Tree.{exp_of, line_of, lines_of, binary};
 ghost use Rattle.tlua_top.specs.Grammar.{number_of, type_of, type_of_name, word_atom, atom_at};
 ghost use Rattle.tlua_top.specs.Machine.{added, multiplied, begin, begin_word, closed, comma, close, signed, had, wanted, opened, name_found, behind_name, type_found, equals, step, last, goes, wanting};
 ghost use Rattle.tlua_top.specs.Reader.{names_of, left_of, chain_of, goal_of, stage_of, config_of, Steps, Closes};
@@ -10,7 +10,7 @@ use crate::reader::ReadError;
 use crate::reader::cut::is;
 use crate::reader::stage::{Chain, Done, Goal, LeftOperand, Reader, Stage};
 use crate::reader::token::{Symbol, Token, TokenKind, Word};
-use lua_tree::{Expr, Operator, Stat, TypeName};
+use line_tree::{Expr, Operator, Stat, TypeName};
 use std::alloc::Global;
 use tl_base::{Boxed, Bytes, List, NoMemory, Pos};
 

@@ -1,16 +1,16 @@
 ghost use Rattle.std.specs.Prelude.{◌≡◌, ◌++◌, ℕ, List as Seq, map, IfOk, OnOk, slice_index_or};
 ghost use Rattle.std.specs.Int.{int_wrap, w64};
-ghost use Rattle.lua_tree.specs.Tree.{exp_of};
-ghost use Rattle.lua_meaning.specs.Values as v;
-ghost use Rattle.lua_meaning.specs.Meaning.{apply, operate, eval, eval_all, printed};
+ghost use Rattle.line_tree.specs.Tree.{exp_of};
+ghost use Rattle.line_meaning.specs.Values as v;
+ghost use Rattle.line_meaning.specs.Meaning.{apply, operate, eval, eval_all, printed};
 ghost use Rattle.tlua_top.specs.Runs.{value_of, values_of, further, state_of, Gives};
 
 use crate::run::state::{Machine, Stop};
 use crate::run::value::Value;
-use lua_tree::{Expr, Operator};
+use line_tree::{Expr, Operator};
 use std::alloc::Global;
 use tl_base::{Bytes, List, NoMemory, Pos};
-use tl_types::Text;
+use line_types::Text;
 
 fn apply(operator: Operator, left: i64, right: i64) -> i64
     ensures { result ≡ int_wrap w64 (apply operator left right) }

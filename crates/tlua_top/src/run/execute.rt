@@ -1,13 +1,13 @@
 ghost use Rattle.std.specs.Prelude.{◌≡◌, ◌∷◌, [], ◌++◌, ℕ, List, map, OnOk, slice_set};
-ghost use Rattle.lua_tree.specs.Tree.{exp_of, line_of, lines_of};
-ghost use Rattle.lua_meaning.specs.State.{write};
-ghost use Rattle.lua_meaning.specs.Meaning.{printed, exec, exec_all};
+ghost use Rattle.line_tree.specs.Tree.{exp_of, line_of, lines_of};
+ghost use Rattle.line_meaning.specs.State.{write};
+ghost use Rattle.line_meaning.specs.Meaning.{printed, exec, exec_all};
 ghost use Rattle.tlua_top.specs.Runs.{value_of, state_of, Prints, Declares, Assigns, Execs, Runs};
 
 use crate::run::evaluate::{eval, eval_all, push_printed};
 use crate::run::state::{Machine, Stop};
 use crate::run::value::Value;
-use lua_tree::{Expr, Stat};
+use line_tree::{Expr, Stat};
 use std::alloc::Global;
 use tl_base::NoMemory;
 

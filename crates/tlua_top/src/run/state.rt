@@ -42,7 +42,7 @@ pub struct Machine {
 }
 
 impl Machine {
-    ghost use Rattle.lua_meaning.specs.State.{pass, place_text, kind_at, record_error, raise_kind};
+    ghost use Rattle.line_meaning.specs.State.{pass, place_text, kind_at, record_error, raise_kind};
     ghost use Rattle.tlua_top.specs.Runs.{state_of, Raises};
 
     /// Passes a crossing.

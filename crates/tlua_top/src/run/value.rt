@@ -1,10 +1,10 @@
 ghost use Rattle.std.specs.Prelude.{◌≡◌, ◌++◌, IfOk, OnOk, MatchOption};
-ghost use Rattle.lua_meaning.specs.Values as v;
-ghost use Rattle.lua_meaning.specs.Values.{kind_of, text_of};
+ghost use Rattle.line_meaning.specs.Values as v;
+ghost use Rattle.line_meaning.specs.Values.{kind_of, text_of};
 
 use crate::report::push_signed;
 use tl_base::{Bytes, NoMemory};
-use tl_types::Text;
+use line_types::Text;
 
 /// A value. All that hold a string share its bytes.
 #[derive(Debug, Drop)]

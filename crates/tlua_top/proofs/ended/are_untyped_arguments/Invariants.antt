@@ -1,6 +1,6 @@
 use Rattle.std.proofs.Common.{◌≡◌, map, drop}
 use Rattle.std.specs.List.{list_all}
-use Rattle.lua_tree.specs.Tree.{exp_of}
+use Rattle.line_tree.specs.Tree.{exp_of}
 use Rattle.tlua_top.specs.Defined.{is_untyped_argument}
 use Rattle.tlua_top.proofs.ended.are_untyped_arguments.Given as goal
 

@@ -1,6 +1,6 @@
 use Rattle.std.proofs.Common.{◌≡◌, drop}
 use Rattle.std.specs.List.{list_all}
-use Rattle.lua_tree.specs.Tree.{lines_of}
+use Rattle.line_tree.specs.Tree.{lines_of}
 use Rattle.tlua_top.specs.Defined.{is_untyped_line}
 use Rattle.tlua_top.proofs.ended.are_untyped_lines.Given as goal
 

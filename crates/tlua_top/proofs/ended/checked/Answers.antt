@@ -1,5 +1,5 @@
 use Rattle.std.proofs.Common.{sym, ◌∙◌, ap}
-use Rattle.lua_tree.specs.Tree.{lines_of}
+use Rattle.line_tree.specs.Tree.{lines_of}
 use Rattle.tlua_top.specs.Defined.{admits}
 use Rattle.tlua_top.proofs.Closing.{unread, unfit}
 use Rattle.tlua_top.proofs.ended.checked.Goals as goal

@@ -1,7 +1,7 @@
 use Rattle.std.proofs.Common.{List, subst, ◌∙◌, ap, ◌-◌, ◌≡◌, Ok, Err, []}
-use Rattle.lua_tree.specs.declared.tree.Stat.{Stat}
-use Rattle.lua_tree.specs.Tree.{lines_of}
-use Rattle.lua_meaning.specs.Meaning.{exec_all}
+use Rattle.line_tree.specs.declared.tree.Stat.{Stat}
+use Rattle.line_tree.specs.Tree.{lines_of}
+use Rattle.line_meaning.specs.Meaning.{exec_all}
 use Rattle.tlua_top.specs.declared.run.state.Stop.TheVariants as stop
 use Rattle.tlua_top.specs.Runs.{state_of, Runs}
 use Rattle.tlua_top.proofs.RunEnds.{fresh_machine, ends_normal, ends_raised}

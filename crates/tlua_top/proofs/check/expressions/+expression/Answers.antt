@@ -1,12 +1,12 @@
 use Rattle.std.proofs.Common.{◌≡◌, rules, sym, ap, ◌∙◌, Result}
 use Rattle.tl_base.specs.declared.place.Pos.{Pos}
 use Rattle.tl_base.specs.declared.refusal.Failure.{Failure}
-use Rattle.lua_tree.specs.declared.tree.Operator.{Operator}
-use Rattle.lua_tree.specs.declared.tree.Expr.{Expr, fold-roll-Expr}
-use Rattle.lua_tree.specs.declared.tree.Expr.TheOpen as open_expr
-use Rattle.lua_tree.specs.declared.tree.Expr.TheVariants as expr
-use Rattle.lua_tree.specs.Tree.{Exp, binary, exp_of}
-use Rattle.tl_types.specs.Order.{below, consistent}
+use Rattle.line_tree.specs.declared.tree.Operator.{Operator}
+use Rattle.line_tree.specs.declared.tree.Expr.{Expr, fold-roll-Expr}
+use Rattle.line_tree.specs.declared.tree.Expr.TheOpen as open_expr
+use Rattle.line_tree.specs.declared.tree.Expr.TheVariants as expr
+use Rattle.line_tree.specs.Tree.{Exp, binary, exp_of}
+use Rattle.line_types.specs.Order.{below, consistent}
 use Rattle.tl_rules.specs.Checked.{fine}
 use Rattle.tl_rules.specs.Locals.{Env}
 use Rattle.tl_rules.specs.Rules.{check_exp, operation}

@@ -1,5 +1,5 @@
 use Rattle.std.proofs.Common.{◌≡◌, take}
-use Rattle.lua_tree.specs.Tree.{lines_of}
+use Rattle.line_tree.specs.Tree.{lines_of}
 use Rattle.tl_rules.specs.Crossings.{module_marks}
 use Rattle.tlua_top.proofs.check.marks.all_marks.Given as goal
 

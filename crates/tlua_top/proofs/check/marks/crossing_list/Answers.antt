@@ -1,5 +1,5 @@
 use Rattle.std.proofs.Common.{◌≡◌, subst}
-use Rattle.lua_tree.specs.Tree.{lines_of}
+use Rattle.line_tree.specs.Tree.{lines_of}
 use Rattle.tl_rules.specs.Crossings.{module_marks, IsCrossingList}
 use Rattle.tlua_top.proofs.CrossingList.{sorted_list}
 use Rattle.tlua_top.proofs.check.marks.crossing_list.Goals as goal

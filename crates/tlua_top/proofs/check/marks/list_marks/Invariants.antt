@@ -1,5 +1,5 @@
 use Rattle.std.proofs.Common.{◌≡◌, ◌++◌, flat_map, map, take}
-use Rattle.lua_tree.specs.Tree.{exp_of}
+use Rattle.line_tree.specs.Tree.{exp_of}
 use Rattle.tl_rules.specs.Crossings.{marks_of}
 use Rattle.tlua_top.proofs.check.marks.list_marks.Given as goal
 

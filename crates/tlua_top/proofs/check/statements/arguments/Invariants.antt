@@ -1,6 +1,6 @@
 use Rattle.std.proofs.Common.{◌≡◌, map}
-use Rattle.lua_tree.specs.Tree.{exp_of}
-use Rattle.tl_types.specs.Order.{below, consistent}
+use Rattle.line_tree.specs.Tree.{exp_of}
+use Rattle.line_types.specs.Order.{below, consistent}
 use Rattle.tl_rules.specs.Rules.{check_arguments}
 use Rattle.tlua_top.proofs.Loops.{after_exps}
 use Rattle.tlua_top.proofs.check.statements.arguments.Given as goal

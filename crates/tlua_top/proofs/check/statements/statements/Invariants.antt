@@ -1,6 +1,6 @@
 use Rattle.std.proofs.Common.{◌≡◌, []}
-use Rattle.lua_tree.specs.Tree.{lines_of}
-use Rattle.tl_types.specs.Order.{below, consistent}
+use Rattle.line_tree.specs.Tree.{lines_of}
+use Rattle.line_types.specs.Order.{below, consistent}
 use Rattle.tl_rules.specs.Rules.{check_lines}
 use Rattle.tlua_top.proofs.Loops.{after_lines}
 use Rattle.tlua_top.proofs.check.statements.statements.Given as goal

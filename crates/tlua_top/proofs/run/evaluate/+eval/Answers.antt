@@ -1,11 +1,11 @@
 use Rattle.std.proofs.Common.{map, Err, Ok, subst, sym, ap, ◌∙◌}
-use Rattle.lua_tree.specs.declared.tree.Expr.{Expr}
-use Rattle.lua_tree.specs.Tree.{Exp, exp_of}
-use Rattle.lua_tree.specs.Shape.{place_of}
-use Rattle.lua_meaning.specs.State.{pass}
-use Rattle.lua_meaning.specs.Meaning.{eval}
+use Rattle.line_tree.specs.declared.tree.Expr.{Expr}
+use Rattle.line_tree.specs.Tree.{Exp, exp_of}
+use Rattle.line_tree.specs.Shape.{place_of}
+use Rattle.line_meaning.specs.State.{pass}
+use Rattle.line_meaning.specs.Meaning.{eval}
 use Rattle.tlua_top.specs.Runs.{value_of, state_of, Gives}
-use Rattle.lua_tree.proofs.Views.{exp_of-Binary, exp_of-Mark}
+use Rattle.line_tree.proofs.Views.{exp_of-Binary, exp_of-Mark}
 use Rattle.tlua_top.proofs.Runs.{binary_first, binary_second, binary_both, mark_stops, mark_passes}
 use Rattle.tlua_top.proofs.run.evaluate.+eval.Goals as goal
 

@@ -1,6 +1,6 @@
 use Rattle.std.proofs.Common.{◌≡◌, ℕ, List, map, drop}
-use Rattle.lua_tree.specs.Tree.{exp_of}
-use Rattle.lua_meaning.specs.Meaning.{eval_all}
+use Rattle.line_tree.specs.Tree.{exp_of}
+use Rattle.line_meaning.specs.Meaning.{eval_all}
 use Rattle.tlua_top.specs.Runs.{value_of, values_of, state_of, after_values}
 use Rattle.tlua_top.proofs.run.evaluate.eval_all.Given as goal
 

@@ -1,6 +1,6 @@
 use Rattle.std.proofs.Common.{List, map, subst, Err}
-use Rattle.lua_tree.specs.Tree.{exp_of}
-use Rattle.lua_meaning.specs.Meaning.{eval}
+use Rattle.line_tree.specs.Tree.{exp_of}
+use Rattle.line_meaning.specs.Meaning.{eval}
 use Rattle.tlua_top.specs.declared.run.value.Value.{Value}
 use Rattle.tlua_top.specs.Runs.{value_of, state_of, Gives}
 use Rattle.tlua_top.proofs.Runs.{declare_stops}

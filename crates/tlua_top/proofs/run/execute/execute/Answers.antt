@@ -1,5 +1,5 @@
 use Rattle.std.proofs.Common.{map, ap}
-use Rattle.lua_tree.specs.Tree.{print, declare, assign, exp_of, line_of}
+use Rattle.line_tree.specs.Tree.{print, declare, assign, exp_of, line_of}
 use Rattle.tlua_top.specs.Runs.{value_of, state_of}
 use Rattle.tlua_top.proofs.Runs.{statement_is, print_is}
 use Rattle.tlua_top.proofs.run.execute.execute.Goals as goal

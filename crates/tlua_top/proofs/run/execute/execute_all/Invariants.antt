@@ -1,6 +1,6 @@
 use Rattle.std.proofs.Common.{◌≡◌, ℕ, List, [], map, drop}
-use Rattle.lua_tree.specs.Tree.{lines_of}
-use Rattle.lua_meaning.specs.Meaning.{exec_all}
+use Rattle.line_tree.specs.Tree.{lines_of}
+use Rattle.line_meaning.specs.Meaning.{exec_all}
 use Rattle.tlua_top.specs.Runs.{value_of, state_of}
 use Rattle.tlua_top.proofs.run.execute.execute_all.Given as goal
 

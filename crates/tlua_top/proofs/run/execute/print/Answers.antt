@@ -1,7 +1,7 @@
 use Rattle.std.proofs.Common.{map, ◌∙◌, ap}
-use Rattle.lua_tree.specs.Tree.{exp_of}
-use Rattle.lua_meaning.specs.State.{write}
-use Rattle.lua_meaning.specs.Meaning.{printed}
+use Rattle.line_tree.specs.Tree.{exp_of}
+use Rattle.line_meaning.specs.State.{write}
+use Rattle.line_meaning.specs.Meaning.{printed}
 use Rattle.tlua_top.specs.Runs.{value_of, values_of, state_of}
 use Rattle.tlua_top.proofs.Runs.{print_stops, print_ends}
 use Rattle.tlua_top.proofs.run.execute.print.Goals as goal

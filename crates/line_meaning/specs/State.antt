@@ -4,8 +4,8 @@ use Rattle.tl_base.specs.declared.place.Pos.{Pos}
 use Rattle.tl_base.specs.declared.place.ModuleKind.{ModuleKind}
 use Rattle.tl_base.specs.declared.place.ModuleKind.TheVariants.{Typed, Untyped}
 use Rattle.tl_base.specs.declared.crossing.Crossing.{Crossing}
-use Rattle.lua_meaning.specs.Values as value
-use Rattle.lua_meaning.specs.Values.{Value}
+use Rattle.line_meaning.specs.Values as value
+use Rattle.line_meaning.specs.Values.{Value}
 
 -- an operand-kind error at a typed module's place, and the first mark as it stood when the error was raised
 pub record KindError : Type 0 where

@@ -5,10 +5,10 @@ use Rattle.std.specs.Int.{int_wrap}
 use Rattle.tl_base.specs.declared.place.Pos.{Pos}
 use Rattle.tl_base.specs.declared.place.ModuleKind.TheVariants.{Typed, Untyped}
 use Rattle.tl_base.specs.declared.crossing.CrossKind.TheVariants as cross
-use Rattle.lua_tree.specs.declared.tree.Operator.TheVariants as op
-use Rattle.lua_tree.specs.Tree.{nothing, integer, text, name, binary, mark, Line, print, declare}
-use Rattle.lua_meaning.specs.Values as value
-use Rattle.lua_meaning.specs.Program.{failed, spent, meaning}
+use Rattle.line_tree.specs.declared.tree.Operator.TheVariants as op
+use Rattle.line_tree.specs.Tree.{nothing, integer, text, name, binary, mark, Line, print, declare}
+use Rattle.line_meaning.specs.Values as value
+use Rattle.line_meaning.specs.Program.{failed, spent, meaning}
 
 at : ℕ → ℕ → Pos
 at l c = record { «module» = 0; line = l; column = c }

@@ -4,10 +4,10 @@
 use Rattle.std.specs.Prelude.{ℕ, ◌-◌, List, [], ◌∷◌, map, Option, None}
 use Rattle.tl_base.specs.declared.place.ModuleKind.{ModuleKind}
 use Rattle.tl_base.specs.declared.crossing.Crossing.{Crossing}
-use Rattle.lua_tree.specs.Tree.{Line}
-use Rattle.lua_meaning.specs.Values.{Value}
-use Rattle.lua_meaning.specs.State.{State, KindError, Ran, gives, raises, cut, turn}
-use Rattle.lua_meaning.specs.Meaning.{Frame, exec_all}
+use Rattle.line_tree.specs.Tree.{Line}
+use Rattle.line_meaning.specs.Values.{Value}
+use Rattle.line_meaning.specs.State.{State, KindError, Ran, gives, raises, cut, turn}
+use Rattle.line_meaning.specs.Meaning.{Frame, exec_all}
 
 pub record Module : Type 0 where
   pub kind : ModuleKind

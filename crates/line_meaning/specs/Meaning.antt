@@ -3,13 +3,13 @@
 use Rattle.std.specs.Prelude.{ℕ, ℤ, ◌+ℤ◌, ◌-ℤ◌, ◌*ℤ◌, List, [], ◌∷◌, ◌++◌, slice_index_or, slice_set, codes}
 use Rattle.std.specs.Int.{int_wrap, w64}
 use Rattle.tl_base.specs.declared.place.Pos.{Pos}
-use Rattle.lua_tree.specs.declared.tree.Operator.{Operator}
-use Rattle.lua_tree.specs.declared.tree.Operator.TheVariants as op
-use Rattle.lua_tree.specs.Tree.{Exp, nothing, truth, integer, text, name, binary, mark, Line, print, declare, assign}
-use Rattle.lua_tree.specs.Shape.{place_of}
-use Rattle.lua_meaning.specs.Values as value
-use Rattle.lua_meaning.specs.Values.{Value, kind_of, text_of}
-use Rattle.lua_meaning.specs.State.{State, Ran, gives, then_run, write, pass, raise_kind}
+use Rattle.line_tree.specs.declared.tree.Operator.{Operator}
+use Rattle.line_tree.specs.declared.tree.Operator.TheVariants as op
+use Rattle.line_tree.specs.Tree.{Exp, nothing, truth, integer, text, name, binary, mark, Line, print, declare, assign}
+use Rattle.line_tree.specs.Shape.{place_of}
+use Rattle.line_meaning.specs.Values as value
+use Rattle.line_meaning.specs.Values.{Value, kind_of, text_of}
+use Rattle.line_meaning.specs.State.{State, Ran, gives, then_run, write, pass, raise_kind}
 
 -- the values of the locals, by their numbers
 abbrev pub Frame : Type 0

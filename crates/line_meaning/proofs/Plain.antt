@@ -4,15 +4,15 @@ use Rattle.tl_base.specs.declared.place.Pos.{Pos}
 use Rattle.tl_base.specs.declared.place.ModuleKind.{ModuleKind}
 use Rattle.tl_base.specs.declared.place.ModuleKind.TheVariants.{Typed, Untyped}
 use Rattle.tl_base.specs.declared.crossing.Crossing.{Crossing}
-use Rattle.lua_tree.specs.declared.tree.Operator.{Operator}
-use Rattle.lua_tree.specs.Tree.{Exp, nothing, truth, integer, text, name, binary, mark, Line, print, declare, assign}
-use Rattle.lua_tree.specs.Shape.{plain_exp, plain_line, plain_lines}
-use Rattle.lua_meaning.specs.Values as value
-use Rattle.lua_meaning.specs.Values.{Value}
-use Rattle.lua_meaning.specs.State.{State, Ran, gives, raises, cut, then_run, turn, write, pass, record_error, raise_kind, place_text}
-use Rattle.lua_meaning.specs.Meaning.{Frame, operate, eval, eval_all, printed, exec, exec_all}
-use Rattle.lua_meaning.specs.Program.{Module, failed, meaning, main_body, start, result_of}
-use Rattle.lua_meaning.specs.Plain.{plain_module, IsSameRun}
+use Rattle.line_tree.specs.declared.tree.Operator.{Operator}
+use Rattle.line_tree.specs.Tree.{Exp, nothing, truth, integer, text, name, binary, mark, Line, print, declare, assign}
+use Rattle.line_tree.specs.Shape.{plain_exp, plain_line, plain_lines}
+use Rattle.line_meaning.specs.Values as value
+use Rattle.line_meaning.specs.Values.{Value}
+use Rattle.line_meaning.specs.State.{State, Ran, gives, raises, cut, then_run, turn, write, pass, record_error, raise_kind, place_text}
+use Rattle.line_meaning.specs.Meaning.{Frame, operate, eval, eval_all, printed, exec, exec_all}
+use Rattle.line_meaning.specs.Program.{Module, failed, meaning, main_body, start, result_of}
+use Rattle.line_meaning.specs.Plain.{plain_module, IsSameRun}
 
 -- states that differ in their records alone
 record Like (s t : State) : Type 0 where

@@ -1,7 +1,7 @@
 -- The plain program, and what it has in common with the marked one.
 use Rattle.std.specs.Prelude.{◌≡◌}
-use Rattle.lua_tree.specs.Shape.{plain_lines}
-use Rattle.lua_meaning.specs.Program.{Module, Result}
+use Rattle.line_tree.specs.Shape.{plain_lines}
+use Rattle.line_meaning.specs.Program.{Module, Result}
 
 abbrev pub plain_module : Module → Module
 plain_module m = record m { body = plain_lines m.body }
