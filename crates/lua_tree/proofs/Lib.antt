@@ -1,2 +1,4 @@
 pub mod Library
 pub mod Named
+pub mod Lexical
+pub mod LexicalTrees
