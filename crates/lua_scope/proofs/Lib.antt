@@ -3,3 +3,4 @@ pub mod Places
 pub mod Crossing
 pub mod Declared
 pub mod Required
+pub mod Small

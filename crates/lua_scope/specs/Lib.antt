@@ -4,5 +4,6 @@ pub mod Newest
 pub mod Around
 pub mod Steps
 pub mod Failures
+pub mod Examples
 pub mod Answers
 pub mod Parts

@@ -24,6 +24,7 @@ fn parts(alloc: Global, block: &Block) -> Result<Parts, Failure>
 }
 
 /// What the names of a module mean: its local for each use of a name, or a name of the library. It is refused with the first of S1 to S8 by place.
+/// Uses and locals are listed in order of place, so a use stands at its number where the tree's uses are numbered so, as the parser numbers them.
 /// Calls of `require` aren't bound yet. A module with 2^32 or more locals or functions is answered with want of memory.
 pub fn resolve(alloc: Global, chunk: Chunk) -> Result<Scoped, Failure>
     ensures ok { IfOk result (λ s. resolution chunk ≡ Ok s) }

@@ -196,6 +196,11 @@ fn agree(rt: &impl Abort, alloc: Global, rows: &[(&str, &str)]) -> Result<(), Fa
 
 #[test]
 fn names_mean_the_latest_local_in_scope(rt: HostRuntime) -> Result<(), Fail> {
+    an_expression_declares_nothing();
+    a_block_hides_what_it_declares();
+    a_statement_ends_where_it_began();
+    a_local_is_not_seen_in_its_own_initialiser();
+    the_condition_of_repeat_sees_the_locals_of_its_body();
     agree(&rt, rt.alloc(), SHADOWS.as_slice())
 }
 

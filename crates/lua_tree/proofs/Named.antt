@@ -1,6 +1,6 @@
 -- The library's names by a program's spelling, as a function.
 use Rattle.std.proofs.Common.{◌≡◌, ◌≢◌, ℕ, Bool, true, false, List, [], ◌∷◌, Option, Some, None, refl, ap, sym, ◌∙◌, subst, cond}
-use Rattle.std.specs.Prelude.{◌&&◌, IsNone, find}
+use Rattle.std.specs.Prelude.{◌&&◌, find}
 use Rattle.std.specs.Str.{bytes_eq}
 use Rattle.std.specs.Cmp.Lexicographic.{same_text}
 use Rattle.lua_tree.specs.Names.{spelling}

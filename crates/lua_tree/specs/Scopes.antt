@@ -5,3 +5,4 @@ pub mod Places
 pub mod Binding
 pub mod Trees
 pub mod Resolved
+pub mod Lexical

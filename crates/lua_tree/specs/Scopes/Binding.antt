@@ -12,7 +12,6 @@ use Rattle.lua_tree.specs.declared.names.LibName.TheVariants as lib
 use Rattle.lua_tree.specs.declared.scoped.Use.{Use}
 use Rattle.lua_tree.specs.declared.scoped.Use.TheVariants as means
 use Rattle.lua_tree.specs.declared.scoped.LocalInfo.{LocalInfo}
-use Rattle.lua_tree.specs.declared.scoped.Require.{Require}
 use Rattle.lua_tree.specs.Scopes.Events as says
 use Rattle.lua_tree.specs.Scopes.Events.{Event}
 use Rattle.lua_tree.specs.Scopes.Library.{named, is_library_table}

@@ -1,10 +1,10 @@
 -- The module whose names are bound, or its first refusal by place.
-use Rattle.std.specs.Prelude.{◌≡◌, ℕ, true, false, List, [], ◌∷◌, map, Option, Some, None, Result, Ok, Err}
+use Rattle.std.specs.Prelude.{◌≡◌, true, false, [], map, None, Result, Ok, Err}
 use Rattle.tl_base.specs.declared.refusal.Refusal.{Refusal}
 use Rattle.lua_tree.specs.declared.syntax.Chunk.{Chunk}
 use Rattle.lua_tree.specs.declared.scoped.Require.{Require}
 use Rattle.lua_tree.specs.declared.scoped.Scoped.{Scoped}
-use Rattle.lua_tree.specs.Scopes.Places.{Place, Found, State}
+use Rattle.lua_tree.specs.Scopes.Places.{Place, State}
 use Rattle.lua_tree.specs.Scopes.Binding.{Outcome, run}
 use Rattle.lua_tree.specs.Scopes.Trees.{block_of}
 

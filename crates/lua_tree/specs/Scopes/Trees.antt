@@ -1,5 +1,5 @@
 -- What the forms of the language say of names, in order of place.
-use Rattle.std.specs.Prelude.{ℕ, ◌+◌, Bool, true, false, List, [], ◌∷◌, ◌++◌, map, length, Option, Some, None, is_some, codes}
+use Rattle.std.specs.Prelude.{ℕ, List, [], ◌∷◌, ◌++◌, map, length, Option, Some, None, is_some, codes}
 use Rattle.std.specs.Option.{option_map_or}
 use Rattle.std.specs.List.{flat_map}
 use Rattle.tl_base.specs.declared.place.Pos.{Pos}
@@ -14,7 +14,6 @@ use Rattle.lua_tree.specs.declared.syntax.Block.{Block, fold-Block}
 use Rattle.lua_tree.specs.declared.syntax.Body.{Body, fold-Body}
 use Rattle.lua_tree.specs.declared.syntax.Clause.{Clause, fold-Clause}
 use Rattle.lua_tree.specs.declared.syntax.Return.{Return, fold-Return}
-use Rattle.lua_tree.specs.declared.syntax.Chunk.{Chunk}
 use Rattle.lua_tree.specs.Scopes.Events as says
 use Rattle.lua_tree.specs.Scopes.Events.{Event}
 
