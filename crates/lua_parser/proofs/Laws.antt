@@ -1,11 +1,16 @@
 -- Words spell at most one tree, and where they spell none the machine stops at the first word with which no spelling goes on.
-use Rattle.std.proofs.Common.{◌≡◌, ◌<◌, ◌≤◌, [], ◌∷◌, ◌++◌, length, Result, Ok, Err, refl, sym, subst, ap, append_assoc, append-nil, ◌∙◌, arith}
+use Rattle.std.proofs.Common.{◌≡◌, ℕ, ◌⊎◌, inl, inr, Bool, true, false, Option, Some, None, ◌<◌, ◌≤◌, [], ◌∷◌, ◌++◌, length, Result, Ok, Err, refl, sym, subst, ap, append_assoc, append-nil, ◌∙◌, arith}
 use Rattle.std.proofs.lemmas.List.{length-append}
+use Rattle.std.specs.Prelude.{nat_lt}
+use Rattle.std.proofs.lemmas.Bool.Decides.{nat_tests}
 use Rattle.tl_base.specs.declared.place.ModuleKind.{ModuleKind}
+use Rattle.tl_base.specs.declared.place.ModuleKind.TheVariants as module_kind
+use Rattle.tl_base.specs.declared.refusal.RefusalCode.{RefusalCode}
+use Rattle.tl_base.specs.declared.refusal.RefusalCode.TheVariants as code
 use Rattle.lua_tree.specs.declared.syntax.Block.{Block}
 use Rattle.lua_parser.specs.Words.{Word, Words}
 use Rattle.lua_parser.specs.Grammar.Syntax.{SpellsChunk}
-use Rattle.lua_parser.specs.Grammar.Fault.{IsViable, IsDead, FaultAt}
+use Rattle.lua_parser.specs.Grammar.Fault.{IsViable, IsDead, FaultAt, HasCode, foreign}
 use Rattle.lua_parser.specs.Machine.Plan.{Plan, done, want, want_name, read, Reply, stuck, ends, takes}
 use Rattle.lua_parser.specs.Machine.Run.{meet, run, module_plan}
 use Rattle.lua_parser.proofs.Viability.Runs.{Outcome, module_outcome}
@@ -102,3 +107,71 @@ stops_before kind front x us (z ∷ rest) e l v =
     let f = fault_at kind (front ++ x ∷ us) (z ∷ rest) e in
     let c = cuts (f.0 ++ z ∷ []) rest (front ++ x ∷ []) us (append_assoc f.0 (z ∷ []) rest ∙ sym f.1 ∙ sym (append_assoc front (x ∷ []) us)) (omega (arith, l)) in
     f.3 (viable_front (f.0 ++ z ∷ []) c.0 (subst (IsViable kind) c.1 v))
+
+-- ---- the first fault is one, and there is one exactly where no tree is spelled
+
+same_length : (a b c d : Words) → a ++ b ≡ c ++ d → length b ≡ length d → b ≡ d
+same_length [] b [] d e l = e
+same_length [] b (y ∷ c) d e l = let f = ap (λ z. length z) e in absurd (omega (arith, f, l, length-append c d))
+same_length (x ∷ a) b [] d e l = let f = ap (λ z. length z) e in absurd (omega (arith, f, l, length-append a b))
+same_length (x ∷ a) b (y ∷ c) d e l = let f : a ++ b ≡ c ++ d = cc in same_length a b c d f l
+
+-- a front that can go on, and an earlier first word that can't
+not_earlier : {kind : ModuleKind} (all front rest other left : Words) → all ≡ front ++ rest → IsViable kind front → all ≡ other ++ left → IsDead kind other left → length rest < length left → ⊥
+not_earlier all front rest other [] e v f d l = omega (arith, l)
+not_earlier all front rest other (x ∷ left) e v f d l =
+    let c = cuts (other ++ x ∷ []) left front rest (append_assoc other (x ∷ []) left ∙ sym f ∙ e) (omega (arith, l)) in
+    d (viable_front (other ++ x ∷ []) c.0 (subst (IsViable _) c.1 v))
+
+shorter_or_not : (n m : ℕ) → (n < m) ⊎ (m ≤ n)
+shorter_or_not n m = go (nat_lt n m) refl
+  where
+    go : (c : Bool) → nat_lt n m ≡ c → (n < m) ⊎ (m ≤ n)
+    go true e = inl (grind (arith, nat_tests))
+    go false e = inr (grind (arith, nat_tests))
+
+pub one_fault : {kind : ModuleKind} {all r s : Words} → FaultAt kind all r → FaultAt kind all s → r ≡ s
+one_fault {all = all} {r = r} {s = s} f g = go (shorter_or_not (length r) (length s)) (shorter_or_not (length s) (length r))
+  where
+    go : (length r < length s) ⊎ (length s ≤ length r) → (length s < length r) ⊎ (length r ≤ length s) → r ≡ s
+    go (inl l) m = absurd (not_earlier all f.0 r g.0 s f.1 f.2 g.1 g.3 l)
+    go (inr l) (inl m) = absurd (not_earlier all g.0 s f.0 r g.1 g.2 f.1 f.3 m)
+    go (inr l) (inr m) = same_length f.0 r g.0 s (sym f.1 ∙ g.1) (omega arith)
+
+pub no_tree_at_fault : {kind : ModuleKind} {all rest : Words} {b : Block} → SpellsChunk kind b all → FaultAt kind all rest → ⊥
+no_tree_at_fault {kind = kind} {rest = []} {b = b} d f = f.3 b (subst (SpellsChunk kind b) (f.1 ∙ append-nil f.0) d)
+no_tree_at_fault {kind = kind} {rest = x ∷ us} {b = b} d f = f.3 (us, b, subst (SpellsChunk kind b) (f.1 ∙ sym (append_assoc f.0 (x ∷ []) us)) d)
+
+pub tree_or_fault : (kind : ModuleKind) (all : Words) → ((b : Block) × SpellsChunk kind b all) ⊎ ((rest : Words) × FaultAt kind all rest)
+tree_or_fault kind all = go (run kind module_plan all) refl
+  where
+    go : (r : Result Block Words) → run kind module_plan all ≡ r → ((b : Block) × SpellsChunk kind b all) ⊎ ((rest : Words) × FaultAt kind all rest)
+    go (Ok b) e = inl (b, spelled kind all b e)
+    go (Err rest) e = inr (rest, fault_at kind all rest e)
+
+pub one_code : {front rest : Words} {c d : RefusalCode} → HasCode front rest c → HasCode front rest d → c ≡ d
+one_code (HasCode.foreign_word {c = c} x e) (HasCode.foreign_word {c = d} y f) = let g : Some c ≡ Some d = sym e ∙ f in cc
+one_code (HasCode.foreign_word {c = c} x e) (HasCode.types y f v) = let g : Some c ≡ None = sym e ∙ f in cc
+one_code (HasCode.foreign_word {c = c} x e) (HasCode.other y f v) = let g : Some c ≡ None = sym e ∙ f in cc
+one_code (HasCode.types x e v) (HasCode.foreign_word {c = c} y f) = let g : None ≡ Some c = sym e ∙ f in cc
+one_code (HasCode.types x e v) (HasCode.types y f u) = refl
+one_code (HasCode.types x e v) (HasCode.other y f u) = absurd (u v)
+one_code (HasCode.other x e v) (HasCode.foreign_word {c = c} y f) = let g : None ≡ Some c = sym e ∙ f in cc
+one_code (HasCode.other x e v) (HasCode.types y f u) = absurd (v u)
+one_code (HasCode.other x e v) (HasCode.other y f u) = refl
+
+-- each first fault has a code
+pub has_code : (front : Words) (x : Word) (us : Words) → (c : RefusalCode) × HasCode front (x ∷ us) c
+has_code front x us = go (foreign x.kind) refl
+  where
+    typed : (r : Result Block Words) → run module_kind.Typed module_plan (front ++ x ∷ us) ≡ r → foreign x.kind ≡ None → (c : RefusalCode) × HasCode front (x ∷ us) c
+    typed (Ok b) e n = (code.P5, HasCode.types x n (whole_goes_on module_kind.Typed front x us b e))
+    typed (Err rest) e n = past (shorter_or_not (length rest) (length (x ∷ us)))
+      where
+        past : (length rest < length (x ∷ us)) ⊎ (length (x ∷ us) ≤ length rest) → (c : RefusalCode) × HasCode front (x ∷ us) c
+        past (inl l) = (code.P5, HasCode.types x n (goes_on module_kind.Typed front x us rest e l))
+        past (inr l) = (code.P1, HasCode.other x n (stops_before module_kind.Typed front x us rest e l))
+
+    go : (r : Option RefusalCode) → foreign x.kind ≡ r → (c : RefusalCode) × HasCode front (x ∷ us) c
+    go (Some c) e = (c, HasCode.foreign_word x e)
+    go None e = typed (run module_kind.Typed module_plan (front ++ x ∷ us)) refl e

@@ -23,7 +23,12 @@ const DEEPEST: u32 = 200;
 const UNARY_LEVEL: u8 = 11;
 
 /// The operation of two operands.
-fn binary(alloc: Global, operator: BinaryOperator, left: Expr, right: Expr) -> Result<Expr, NoMemory>
+fn binary(
+    alloc: Global,
+    operator: BinaryOperator,
+    left: Expr,
+    right: Expr,
+) -> Result<Expr, NoMemory>
     ensures { IfOk result (λ x. x ≡ e.Binary (place left) operator left right) }
 {
     let pos = place(&left);

@@ -7,4 +7,6 @@ mod operators;
 mod reader;
 mod theorems;
 
-pub use theorems::at_most_one_tree;
+pub use theorems::{
+    at_most_one_fault, at_most_one_tree, no_fault_in_a_tree, one_code, tree_or_fault,
+};

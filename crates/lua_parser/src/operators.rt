@@ -53,4 +53,3 @@ pub(crate) fn right_level(operator: BinaryOperator) -> u8
         | BinaryOperator::Modulo => level(operator) + 1,
     }
 }
-

@@ -1,11 +1,35 @@
-ghost use Rattle.std.specs.Prelude.{◌≡◌};
+//! Laws of the grammar, which no program calls.
+
+ghost use Rattle.std.specs.Prelude.{◌≡◌, ◌⊎◌, ◌∷◌};
 ghost use Rattle.tl_base.specs.declared.place.ModuleKind.{ModuleKind};
+ghost use Rattle.tl_base.specs.declared.refusal.RefusalCode.{RefusalCode};
 ghost use Rattle.lua_tree.specs.declared.syntax.Block.{Block};
-ghost use Rattle.lua_parser.specs.Words.{Words};
+ghost use Rattle.lua_parser.specs.Words.{Word, Words};
 ghost use Rattle.lua_parser.specs.Grammar.Syntax.{SpellsChunk};
+ghost use Rattle.lua_parser.specs.Grammar.Fault.{FaultAt, HasCode};
 
 /// Words spell at most one tree.
 pub fn at_most_one_tree()
     ensures { (kind : ModuleKind) (ts : Words) (a b : Block) → SpellsChunk kind a ts → SpellsChunk kind b ts → a ≡ b }
-{
-}
+{}
+
+/// Words spell a tree, or they have a first word with which no spelling goes on.
+pub fn tree_or_fault()
+    ensures { (kind : ModuleKind) (ts : Words) → ((b : Block) × SpellsChunk kind b ts) ⊎ ((rest : Words) × FaultAt kind ts rest) }
+{}
+
+/// Words that spell a tree have no such word.
+pub fn no_fault_in_a_tree()
+    ensures { (kind : ModuleKind) (ts rest : Words) (b : Block) → SpellsChunk kind b ts → FaultAt kind ts rest → ⊥ }
+{}
+
+/// Words have at most one first fault.
+pub fn at_most_one_fault()
+    ensures { (kind : ModuleKind) (ts p q : Words) → FaultAt kind ts p → FaultAt kind ts q → p ≡ q }
+{}
+
+/// A fault has exactly one code.
+pub fn one_code()
+    ensures code { (front : Words) (x : Word) (rest : Words) → (c : RefusalCode) × HasCode front (x ∷ rest) c }
+    ensures no_other { (front rest : Words) (c d : RefusalCode) → HasCode front rest c → HasCode front rest d → c ≡ d }
+{}

@@ -188,7 +188,8 @@ module _ (kind : ModuleKind) where
       may_open = opposite c;
       good_used = used_no_name;
       at_name = λ x us h. block_at kind outer n c k (named x) us _ refl (and_false c false (λ d. refl)) refl ∙ behind_plain kind outer x n (next_of kind outer k) us h;
-      at_open = λ p us h. block_at kind outer n c k (symbol s.OpenParen p) us _ refl (open_allowed c h) refl }
+      at_open = λ p us h. block_at kind outer n c k (symbol s.OpenParen p) us _ refl (open_allowed c h) refl;
+    }
 
   -- ---- the whole
 
@@ -332,9 +333,9 @@ module _ (kind : ModuleKind) where
     block_reads (SpellsBlock.next_stat {outer = outer} {n = n} {m = m} {c = c} {x = x} {ts = ts} {us = vs} d r j) b k z us f g =
         ap (run kind _) (append_assoc ts (vs) (z ∷ us))
         ∙ (let e = block_first kind r z us f in
-           ap (λ q. run kind (read (Item.a_block outer n b) k) (ts ++ q)) e.2
-           ∙ stat_reads d b k e.0 e.1 e.3 (λ h. subst (λ q. begins_open q ≡ false) e.2 (closed_before vs z us (j h) (ends_no_open f))) (λ h. closed_front ts vs (g h))
-           ∙ sym (ap (run kind (next_of kind outer k (x, m, c))) e.2))
+        ap (λ q. run kind (read (Item.a_block outer n b) k) (ts ++ q)) e.2
+        ∙ stat_reads d b k e.0 e.1 e.3 (λ h. subst (λ q. begins_open q ≡ false) e.2 (closed_before vs z us (j h) (ends_no_open f))) (λ h. closed_front ts vs (g h))
+        ∙ sym (ap (run kind (next_of kind outer k (x, m, c))) e.2))
         ∙ block_reads r c (λ q. k (x ∷ q.0, q.1, q.2)) z us f j
 
     values_reads : {n m : ℕ} {es : List Expr} {ts : Words} → SpellsValues kind n m es ts → {A : Type 0} (k : List Expr × ℕ → Plan A) (y : Word) (us : Words) → ((i : ℕ) (o : Pos) → start_exprs i o y.kind ≡ None) → ((c : Bool) → ExprEnd c y.kind) → is_sign s.Comma y.kind ≡ false
@@ -444,9 +445,9 @@ module _ (kind : ModuleKind) where
         ∙ expr_reads d 1 (omega arith) (omega arith) (λ a. want (key w.Then) λ _. read (Item.a_block false a.1 false) λ c. read (Item.more_clauses c.2) λ r. k (clause a.0 (block c.0 c.1) ∷ r.0) r.1 r.2) (keyword w.Then q) ((vs ++ ws) ++ us) (behind_end 1 _ _ (sure refl (λ a n p. refl) _))
         ∙ ap (run kind _) (append_assoc vs (ws) (us))
         ∙ (let e = else_first kind r in
-           ap (λ z. run kind (read (Item.a_block false m false) λ c. read (Item.more_clauses c.2) λ r. k (clause a (block c.0 c.1) ∷ r.0) r.1 r.2) (vs ++ (z ++ us))) e.2
-           ∙ block_reads b false (λ c. read (Item.more_clauses c.2) λ r. k (clause a (block c.0 c.1) ∷ r.0) r.1 r.2) e.0 (e.1 ++ us) e.3 (λ h. cc)
-           ∙ sym (ap (λ z. run kind (read (Item.more_clauses j) λ r. k (clause a (block ss end) ∷ r.0) r.1 r.2) (z ++ us)) e.2))
+        ap (λ z. run kind (read (Item.a_block false m false) λ c. read (Item.more_clauses c.2) λ r. k (clause a (block c.0 c.1) ∷ r.0) r.1 r.2) (vs ++ (z ++ us))) e.2
+        ∙ block_reads b false (λ c. read (Item.more_clauses c.2) λ r. k (clause a (block c.0 c.1) ∷ r.0) r.1 r.2) e.0 (e.1 ++ us) e.3 (λ h. cc)
+        ∙ sym (ap (λ z. run kind (read (Item.more_clauses j) λ r. k (clause a (block ss end) ∷ r.0) r.1 r.2) (z ++ us)) e.2))
         ∙ else_reads r (λ r. k (clause a (block ss end) ∷ r.0) r.1 r.2) us
 
     else_reads : {n m : ℕ} {cs : List Clause} {d : Option Block} {ts : Words} → SpellsElse kind n m cs d ts → {A : Type 0} (k : List Clause × Option Block × ℕ → Plan A) (us : Words) → run kind (read (Item.more_clauses n) k) (ts ++ us) ≡ run kind (k (cs, d, m)) us

@@ -82,7 +82,6 @@ if_same : {B : Type 0} (c : Bool) (a b : B) → a ≡ b → (if c then a else b)
 if_same true a b h = h
 if_same false a b h = refl
 
-
 module _ (kind : ModuleKind) where
   -- a first word of an entry that is no name
   entry_start : (n : ℕ) (o : Pos) {k : WordKind} → Starter k → ((x : List ℕ) → k ≡ WordKind.name x → ⊥) → exprs_step kind (Item.entries n) o k ≡ begun (going (start_expr 1 n o k) (λ a. read (Item.behind_entry a.1) λ r. done (entry.Item a.0 ∷ r.0, r.1)))
@@ -104,14 +103,13 @@ module _ (kind : ModuleKind) where
   typed_test : kind ≡ module_kind.Typed → is_typed kind ≡ true
   typed_test h = ap is_typed h
 
-
 module _ (kind : ModuleKind) {A : Type 0} where
   pub operations_take : (l h : ℕ) (a : Expr) (n : ℕ) (c : Bool) (q : Pos) (o : BinaryOperator) (us : Words) (k : Expr × ℕ × Bool → Plan A) → l ≤ level o → left_level o ≤ h
       → run kind (read (Item.operations l h a n c) k) (marked (binary_mark o) q ∷ us) ≡ run kind (read (Item.an_expr (right_level o) n) λ b. read (Item.operations l (level o) (e.Binary (place a) o a b.0) b.1 b.2) k) us
   operations_take l h a n c q o us k f g =
       read_on kind (Item.operations l h a n c) k (marked (binary_mark o) q) us
       ∙ ap (λ r. on kind (marked (binary_mark o) q) us (if_binary r
-            (λ i. if nat_le l (level i) then (if nat_le (left_level i) h then takes (read (Item.an_expr (right_level i) n) λ b. read (Item.operations l (level i) (e.Binary (place a) i a b.0) b.1 b.2) done) else stuck) else ends (a, n, c)) (ends (a, n, c))) k) (binary_at_mark o)
+      (λ i. if nat_le l (level i) then (if nat_le (left_level i) h then takes (read (Item.an_expr (right_level i) n) λ b. read (Item.operations l (level i) (e.Binary (place a) i a b.0) b.1 b.2) done) else stuck) else ends (a, n, c)) (ends (a, n, c))) k) (binary_at_mark o)
       ∙ ap (λ r. on kind (marked (binary_mark o) q) us r k) (if_true _ _ _ (nat_le_true l (level o) f) ∙ if_true _ _ _ (nat_le_true (left_level o) h g))
 
   pub operations_end : (l h : ℕ) (a : Expr) (n : ℕ) (c : Bool) (y : Word) (us : Words) (k : Expr × ℕ × Bool → Plan A) → ((o : BinaryOperator) → binary_at y.kind ≡ Some o → level o < l)
@@ -120,7 +118,7 @@ module _ (kind : ModuleKind) {A : Type 0} where
     where
       go : (r : Option BinaryOperator) → ((o : BinaryOperator) → r ≡ Some o → level o < l)
           → on kind y us (if_binary r (λ i. if nat_le l (level i) then (if nat_le (left_level i) h then takes (read (Item.an_expr (right_level i) n) λ b. read (Item.operations l (level i) (e.Binary (place a) i a b.0) b.1 b.2) done) else stuck) else ends (a, n, c)) (ends (a, n, c))) k
-            ≡ run kind (k (a, n, c)) (y ∷ us)
+          ≡ run kind (k (a, n, c)) (y ∷ us)
       go None g = refl
       go (Some o) g = ap (λ r. on kind y us r k) (if_false _ _ (ends (a, n, c)) (nat_le_false l (level o) (g o refl)))
 
@@ -174,7 +172,7 @@ module _ (kind : ModuleKind) {A : Type 0} where
   named_item x n k y us h =
       read_on kind (Item.named_or_item x n) k y us ∙ ap (λ r. on kind y us r k) (if_false _ _ _ h)
       ∙ on_both kind y us (suffix_step Target (e.Name x.pos n x.text) (n + 1) y.pos y.kind) _ _ k in_suffixes
-          (λ a. on_both kind y us (operations_step 1 unary_level a.1 a.2 true y.kind) _ _ k in_operations (λ c. refl) (λ c. refl) ∙ sym (read_on kind (Item.operations 1 unary_level a.1 a.2 true) in_operations y us)) (λ a. refl)
+      (λ a. on_both kind y us (operations_step 1 unary_level a.1 a.2 true y.kind) _ _ k in_operations (λ c. refl) (λ c. refl) ∙ sym (read_on kind (Item.operations 1 unary_level a.1 a.2 true) in_operations y us)) (λ a. refl)
       ∙ sym (read_on kind (Item.suffixes Target (e.Name x.pos n x.text) (n + 1)) in_suffixes y us)
     where
       in_operations : Expr × ℕ × Bool → Plan A

@@ -60,7 +60,7 @@ module _ (kind : ModuleKind) where
     joined_unfold k x us h =
         read_on kind (Item.more_of_union joined) k x us ∙ on_going kind x us (start_plain x.pos x.kind) (λ y. read (Item.more_of_union (ended InItself)) λ xs. done (y ∷ xs)) k
         ∙ sym (read_on kind Item.a_member (λ m. read (Item.more_of_union m.1) λ xs. k (m.0 ∷ xs)) x us ∙ ap (λ o. on kind x us (begun o) (λ m. read (Item.more_of_union m.1) λ xs. k (m.0 ∷ xs))) (if_false _ _ (going (start_plain x.pos x.kind) (λ y. done (y, ended InItself))) h)
-            ∙ on_going kind x us (start_plain x.pos x.kind) (λ y. done (y, ended InItself)) (λ m. read (Item.more_of_union m.1) λ xs. k (m.0 ∷ xs)))
+        ∙ on_going kind x us (start_plain x.pos x.kind) (λ y. done (y, ended InItself)) (λ m. read (Item.more_of_union m.1) λ xs. k (m.0 ∷ xs)))
 
     mark_ends : (x : TypeExpr) (k : TypeExpr → Plan A) (y : Word) (us : Words) → is_sign s.Question y.kind ≡ false → run kind (read (Item.maybe_mark x) k) (y ∷ us) ≡ run kind (k x) (y ∷ us)
     mark_ends x k y us h = read_on kind (Item.maybe_mark x) k y us ∙ rw h refl
@@ -106,10 +106,10 @@ module _ (kind : ModuleKind) where
   named_unfold {A = A} p x k y us h =
       read_on kind (Item.named_in_braces p x) k y us ∙ ap (λ r. on kind y us r k) (if_false _ _ _ (after_no_colon y.kind y.pos h) ∙ after_no_name y.kind _ _ h)
       ∙ on_both kind y us (name_step x.text y.kind) _ _ k in_name (λ d.
-          on_both kind y us (mark_step (t.Named x.pos d.0 d.1) y.kind) _ _ k (in_mark d) (λ a.
-              on_both kind y us (member_step (ended InItself) y.pos y.kind) _ _ k (in_union a) (λ xs. want_on kind (sign s.CloseBrace) (t.Array p (union_of a xs)) k y us) (λ xs. refl)
-              ∙ sym (read_on kind (Item.more_of_union (ended InItself)) (in_union a) y us)) (λ a. refl)
-          ∙ sym (read_on kind (Item.maybe_mark (t.Named x.pos d.0 d.1)) (in_mark d) y us)) (λ d. refl)
+      on_both kind y us (mark_step (t.Named x.pos d.0 d.1) y.kind) _ _ k (in_mark d) (λ a.
+      on_both kind y us (member_step (ended InItself) y.pos y.kind) _ _ k (in_union a) (λ xs. want_on kind (sign s.CloseBrace) (t.Array p (union_of a xs)) k y us) (λ xs. refl)
+      ∙ sym (read_on kind (Item.more_of_union (ended InItself)) (in_union a) y us)) (λ a. refl)
+      ∙ sym (read_on kind (Item.maybe_mark (t.Named x.pos d.0 d.1)) (in_mark d) y us)) (λ d. refl)
       ∙ sym (read_on kind (Item.more_of_name x.text) in_name y us)
     where
       in_union : TypeExpr → List TypeExpr → Plan A
@@ -254,7 +254,7 @@ module _ (kind : ModuleKind) where
         ∙ type_reads d (λ x. want (sign s.CloseBrace) λ _. read (Item.maybe_mark (t.Array p x)) λ z. k (z, ended InItself)) (symbol s.CloseBrace q) (y ∷ us) (record { no_bar = refl; no_mark = refl; no_dot = refl; no_arrow = refl })
     simple_reads (SpellsSimple.map_type {x = x} {ts = ts} {us = vs} p q o i l d f) k y us h j =
         ap (run kind (read Item.a_type λ a. want (sign s.CloseBracket) λ _. want (sign s.Colon) λ _. read Item.a_type λ b. want (sign s.CloseBrace) λ _. read (Item.maybe_mark (t.Map p a b)) λ z. k (z, ended InItself)))
-            (append_assoc ts (symbol s.CloseBracket o ∷ symbol s.Colon i ∷ vs ++ (symbol s.CloseBrace l ∷ [])) (y ∷ us))
+        (append_assoc ts (symbol s.CloseBracket o ∷ symbol s.Colon i ∷ vs ++ (symbol s.CloseBrace l ∷ [])) (y ∷ us))
         ∙ type_reads d (λ a. want (sign s.CloseBracket) λ _. want (sign s.Colon) λ _. read Item.a_type λ b. want (sign s.CloseBrace) λ _. read (Item.maybe_mark (t.Map p a b)) λ z. k (z, ended InItself)) (symbol s.CloseBracket o) (symbol s.Colon i ∷ (vs ++ (symbol s.CloseBrace l ∷ [])) ++ y ∷ us) (record { no_bar = refl; no_mark = refl; no_dot = refl; no_arrow = refl })
         ∙ ap (run kind (read Item.a_type λ b. want (sign s.CloseBrace) λ _. read (Item.maybe_mark (t.Map p x b)) λ z. k (z, ended InItself))) (append_assoc vs (symbol s.CloseBrace l ∷ []) (y ∷ us))
         ∙ type_reads f (λ b. want (sign s.CloseBrace) λ _. read (Item.maybe_mark (t.Map p x b)) λ z. k (z, ended InItself)) (symbol s.CloseBrace l) (y ∷ us) (record { no_bar = refl; no_mark = refl; no_dot = refl; no_arrow = refl })

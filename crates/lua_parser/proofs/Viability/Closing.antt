@@ -43,7 +43,7 @@ module _ (kind : ModuleKind) where
   field_assigned : (n m : ℕ) (f : Form) (a : Expr) (us : Words) → SpellsPrefix kind f m n a us → Assigns kind m n false (e.Field (place a) a anything) [] (e.Nil o ∷ []) (us ++ symbol s.Dot o ∷ named anything ∷ symbol s.Assign o ∷ nil_words)
   field_assigned n m f a us y =
       subst (Assigns kind m n false (e.Field (place a) a anything) [] (e.Nil o ∷ [])) (append_assoc us (symbol s.Dot o ∷ named anything ∷ []) (symbol s.Assign o ∷ nil_words))
-          (assigns o (SpellsTargets.last_target (SpellsPrefix.field o anything y)) (SpellsList.last (Spells.nil o)))
+      (assigns o (SpellsTargets.last_target (SpellsPrefix.field o anything y)) (SpellsList.last (Spells.nil o)))
 
   pub closes : (j : Item) → (x : Gives j) × (ts : Words) × Means kind j x ts
   closes Item.a_type = (t.Nil o, nil_words, nil_spelled)

@@ -89,15 +89,15 @@ module _ (kind : ModuleKind) where
       further o d f g b us x v ts m i j vs y =
           rw (append-nil, binary_is k o d)
           (subst (Spells kind l j v.1 v.2 v.0) (append_assoc vs (marked (binary_mark o) p ∷ us) ts)
-              (m (grind (arith, nat_tests)) j (vs ++ marked (binary_mark o) p ∷ us) (Spells.binary p o (omega arith) (weaken (grind (arith, nat_tests)) y) (x (right_fits o)))))
+          (m (grind (arith, nat_tests)) j (vs ++ marked (binary_mark o) p ∷ us) (Spells.binary p o (omega arith) (weaken (grind (arith, nat_tests)) y) (x (right_fits o)))))
 
       go : (r : Option BinaryOperator) → binary_at k ≡ r → Meets kind (Means kind (Item.operations l h a n c)) (at p k)
           (if_binary r (λ o. if nat_le l (level o) then (if nat_le (left_level o) h then takes (read (Item.an_expr (right_level o) n) λ b. read (Item.operations l (level o) (e.Binary (place a) o a b.0) b.1 b.2) done) else stuck) else ends (a, n, c)) (ends (a, n, c)))
       go None d = over
       go (Some o) d =
           meets_either kind (Means kind (Item.operations l h a n c)) _ _ _ _
-              (λ f. meets_either kind (Means kind (Item.operations l h a n c)) _ _ _ _ (λ g. meets_takes kind (Means kind (Item.operations l h a n c)) _ _ (further o d f g)) (λ g. meets_stuck kind _ _))
-              (λ f. over)
+          (λ f. meets_either kind (Means kind (Item.operations l h a n c)) _ _ _ _ (λ g. meets_takes kind (Means kind (Item.operations l h a n c)) _ _ (further o d f g)) (λ g. meets_stuck kind _ _))
+          (λ f. over)
 
   -- what one more part makes of a prefix
   abbrev pub Suffixed : Expr → ℕ → Form × Expr × ℕ → Words → Type 0
@@ -115,7 +115,7 @@ module _ (kind : ModuleKind) where
   pub meets_suffixes : (f : Form) (a : Expr) (n : ℕ) (p : Pos) (k : WordKind) → Meets kind (Means kind (Item.suffixes f a n)) (at p k) (suffix_step f a n p k)
   meets_suffixes f a n p k =
       meets_or_ends kind (Means kind (Item.suffixes f a n)) _ _ _ (begins_going kind (Means kind (Item.suffixes f a n)) (Suffixed a n) (at p k) _ _ (suffix_begins a n p k)
-          (λ v ts x u us y m vs z. rw append-nil (subst (SpellsPrefix kind u.0 m u.2 u.1) (append_assoc vs ts us) (y m (vs ++ ts) (x f m vs z)))))
+      (λ v ts x u us y m vs z. rw append-nil (subst (SpellsPrefix kind u.0 m u.2 u.1) (append_assoc vs ts us) (y m (vs ++ ts) (x f m vs z)))))
       (λ m us x. rw append-nil x)
 
   pub meets_arguments : (n : ℕ) (p : Pos) (k : WordKind) → Meets kind (Means kind (Item.some_arguments n)) (at p k) (exprs_step kind (Item.some_arguments n) p k)
@@ -145,7 +145,7 @@ module _ (kind : ModuleKind) where
           → SpellsEntries kind n r.1 (entry.Keyed a b ∷ r.0) (symbol s.OpenBracket p ∷ us ++ (symbol s.CloseBracket q ∷ symbol s.Assign o ∷ vs ++ ts))
       keyed_joined a b m i r us vs ts q o x y z =
           subst (SpellsEntries kind n r.1 (entry.Keyed a b ∷ r.0)) (append_assoc (symbol s.OpenBracket p ∷ us) (symbol s.CloseBracket q ∷ symbol s.Assign o ∷ vs) ts)
-              (z (entry.Keyed a b) n (symbol s.OpenBracket p ∷ us ++ symbol s.CloseBracket q ∷ symbol s.Assign o ∷ vs) (SpellsEntry.keyed p q o x y))
+          (z (entry.Keyed a b) n (symbol s.OpenBracket p ∷ us ++ symbol s.CloseBracket q ∷ symbol s.Assign o ∷ vs) (SpellsEntry.keyed p q o x y))
 
   pub meets_behind_entry : (n : ℕ) (p : Pos) (k : WordKind) → Meets kind (Means kind (Item.behind_entry n)) (at p k) (exprs_step kind (Item.behind_entry n) p k)
   meets_behind_entry n p k =
@@ -157,10 +157,10 @@ module _ (kind : ModuleKind) where
   meets_named_entry x n p k =
       meets_if kind (Means kind (Item.named_or_item x n)) (sign s.Assign) p k _ _ (λ a ts y. rw append-nil (SpellsEntry.named_entry x p (y one_fits)))
       (meets_both kind (Means kind (Item.named_or_item x n)) (Means kind (Item.suffixes Target (e.Name x.pos n x.text) (n + 1))) (at p k) _ _ _ (meets_suffixes Target (e.Name x.pos n x.text) (n + 1) p k)
-          (λ a y. meets_both kind (Means kind (Item.named_or_item x n)) (Means kind (Item.operations 1 unary_level a.1 a.2 true)) (at p k) _ _ _ (meets_operations 1 unary_level a.1 a.2 true p k)
-              (λ c z. meets_ends kind (Means kind (Item.named_or_item x n)) _ _ (item_joined a c [] [] y z))
-              (λ c ts z. rw append-nil (item_joined a c [] ts y z)))
-          (λ a us y c ts z. rw append-nil (item_joined a c us ts y z)))
+      (λ a y. meets_both kind (Means kind (Item.named_or_item x n)) (Means kind (Item.operations 1 unary_level a.1 a.2 true)) (at p k) _ _ _ (meets_operations 1 unary_level a.1 a.2 true p k)
+      (λ c z. meets_ends kind (Means kind (Item.named_or_item x n)) _ _ (item_joined a c [] [] y z))
+      (λ c ts z. rw append-nil (item_joined a c [] ts y z)))
+      (λ a us y c ts z. rw append-nil (item_joined a c us ts y z)))
     where
       item_joined : (a : Form × Expr × ℕ) (c : Expr × ℕ × Bool) (us ts : Words) → Means kind (Item.suffixes Target (e.Name x.pos n x.text) (n + 1)) a us → Means kind (Item.operations 1 unary_level a.1 a.2 true) c ts
           → SpellsEntry kind n c.1 (entry.Item c.0) (named x ∷ us ++ ts)
@@ -172,7 +172,7 @@ module _ (kind : ModuleKind) where
   body_joined n p xs r o d ts us vs z (closed_nothing q) y b = SpellsBody.function_body p q z SpellsParameters.no_params y b
   body_joined n p xs r o d ts us vs z (closed_params {ts = ws} q x) y b =
       subst (λ i. SpellsBody kind n d.2 (body xs r o (block d.0 d.1)) (symbol s.OpenParen p ∷ i)) (sym (append_assoc ws (symbol s.CloseParen q ∷ []) (us ++ (vs ++ keyword w.End z ∷ []))))
-          (SpellsBody.function_body p q z (SpellsParameters.some_params x) y b)
+      (SpellsBody.function_body p q z (SpellsParameters.some_params x) y b)
 
   pub meets_body : (n : ℕ) (p : Pos) (k : WordKind) → Meets kind (Means kind (Item.a_body n)) (at p k) (exprs_step kind (Item.a_body n) p k)
   meets_body n p k =
@@ -186,10 +186,10 @@ module _ (kind : ModuleKind) where
   pub meets_params : (may_end : Bool) (p : Pos) (k : WordKind) → Meets kind (Means kind (Item.params may_end)) (at p k) (exprs_step kind (Item.params may_end) p k)
   meets_params may_end p k =
       meets_either kind (Means kind (Item.params may_end)) _ _ _ _
-          (λ h. let b = both_true kind may_end (is_sign s.CloseParen k) h in meets_takes kind (Means kind (Item.params may_end)) _ _ (rw (word_is (sign s.CloseParen) k p b.1, b.0) (closed_nothing p)))
-          (λ h. meets_if kind (Means kind (Item.params may_end)) (sign s.Dots) p k _ _ (λ a ts x q. closed_params q (SpellsParams.rest_param p x))
-              (meets_name kind (Means kind (Item.params may_end)) p k _ _ (λ x. meets_takes kind (Means kind (Item.params may_end)) _ _ (λ a us y r ts z. rw append-nil (z (typed (name_at p x) a) (named (name_at p x) ∷ us) may_end (SpellsTyped.declared (name_at p x) y))))
-              (meets_stuck kind _ _)))
+      (λ h. let b = both_true kind may_end (is_sign s.CloseParen k) h in meets_takes kind (Means kind (Item.params may_end)) _ _ (rw (word_is (sign s.CloseParen) k p b.1, b.0) (closed_nothing p)))
+      (λ h. meets_if kind (Means kind (Item.params may_end)) (sign s.Dots) p k _ _ (λ a ts x q. closed_params q (SpellsParams.rest_param p x))
+      (meets_name kind (Means kind (Item.params may_end)) p k _ _ (λ x. meets_takes kind (Means kind (Item.params may_end)) _ _ (λ a us y r ts z. rw append-nil (z (typed (name_at p x) a) (named (name_at p x) ∷ us) may_end (SpellsTyped.declared (name_at p x) y))))
+      (meets_stuck kind _ _)))
 
   pub meets_more_params : (p : Pos) (k : WordKind) → Meets kind (Means kind Item.more_params) (at p k) (exprs_step kind Item.more_params p k)
   meets_more_params p k =

@@ -57,7 +57,7 @@ module _ (kind : ModuleKind) where
       further : (c && opens k) ≡ false → Meets kind (Means kind (Item.a_block outer n c)) (at p k) (or_ends (going (start_stat outer n p k) (λ x. read (Item.a_block outer x.1 x.2) λ r. done (x.0 ∷ r.0, r.1, r.2))) ([], None, n))
       further h = meets_or_ends kind (Means kind (Item.a_block outer n c)) _ _ _
           (begins_going kind (Means kind (Item.a_block outer n c)) _ (at p k) _ (λ x. read (Item.a_block outer x.1 x.2) λ r. done (x.0 ∷ r.0, r.1, r.2)) (begins_with kind (Statement outer n) (at p k) (start_stat outer n p k) (stat_begins outer n p k))
-              (λ x us y r ts z. rw append-nil (joined h x us y r ts z)))
+          (λ x us y r ts z. rw append-nil (joined h x us y r ts z)))
           (SpellsBlock.no_stats, λ d. refl)
 
   pub meets_values : (n : ℕ) (p : Pos) (k : WordKind) → Meets kind (Means kind (Item.return_values n)) (at p k) (step kind (Item.return_values n) p k)
@@ -87,7 +87,7 @@ module _ (kind : ModuleKind) where
   pub meets_path : (o : Pos) (a : Expr) (n : ℕ) (p : Pos) (k : WordKind) → Meets kind (Means kind (Item.rest_of_function o a n)) (at p k) (step kind (Item.rest_of_function o a n) p k)
   meets_path o a n p k =
       meets_if kind (Means kind (Item.rest_of_function o a n)) (sign s.Dot) p k _ _
-          (λ x r ts l outer m us y. rw append-nil (subst (λ z. SpellsStat kind outer m r.1 false r.0 (keyword w.Function o ∷ z)) (append_assoc us (symbol s.Dot p ∷ named x ∷ []) ts) (l outer m (us ++ symbol s.Dot p ∷ named x ∷ []) (SpellsPath.path_field p x y))))
+      (λ x r ts l outer m us y. rw append-nil (subst (λ z. SpellsStat kind outer m r.1 false r.0 (keyword w.Function o ∷ z)) (append_assoc us (symbol s.Dot p ∷ named x ∷ []) ts) (l outer m (us ++ symbol s.Dot p ∷ named x ∷ []) (SpellsPath.path_field p x y))))
       (meets_if kind (Means kind (Item.rest_of_function o a n)) (sign s.Colon) p k _ _ (λ x d ts z outer m us y. rw append-nil (SpellsStat.method_stat o p x y z))
       (meets_if kind (Means kind (Item.rest_of_function o a n)) (sign s.OpenParen) p k _ _ (λ ps ts x i us y d vs b z outer m ws l. SpellsStat.function_stat o l (body_joined kind n p ps.0 ps.1 i d ts us vs z x y b.0)) (meets_stuck kind _ _)))
 
@@ -95,7 +95,7 @@ module _ (kind : ModuleKind) where
   meets_local o n p k =
       meets_if kind (Means kind (Item.rest_of_local o n)) (key w.Function) p k _ _ (λ x d ts z outer. rw append-nil (SpellsStat.local_function o p x z))
       (meets_name kind (Means kind (Item.rest_of_local o n)) p k _ _ (λ x. meets_takes kind (Means kind (Item.rest_of_local o n)) _ _
-          (λ a ts y r us z i vs l outer. rw append-nil (subst (λ c. SpellsStat kind outer n i.1 i.2 (stat.Local o (typed (name_at p x) a ∷ r) i.0) (keyword w.Local o ∷ named (name_at p x) ∷ c)) (append_assoc ts us vs) (SpellsStat.local_stat o (z (typed (name_at p x) a) (named (name_at p x) ∷ ts) (SpellsTyped.declared (name_at p x) y)) l))))
+      (λ a ts y r us z i vs l outer. rw append-nil (subst (λ c. SpellsStat kind outer n i.1 i.2 (stat.Local o (typed (name_at p x) a ∷ r) i.0) (keyword w.Local o ∷ named (name_at p x) ∷ c)) (append_assoc ts us vs) (SpellsStat.local_stat o (z (typed (name_at p x) a) (named (name_at p x) ∷ ts) (SpellsTyped.declared (name_at p x) y)) l))))
       (meets_stuck kind _ _))
 
   pub meets_typed : (p : Pos) (k : WordKind) → Meets kind (Means kind Item.more_typed) (at p k) (step kind Item.more_typed p k)
@@ -122,9 +122,9 @@ module _ (kind : ModuleKind) where
   pub meets_targets : (f : Form) (a : Expr) (n : ℕ) (p : Pos) (k : WordKind) → Meets kind (Means kind (Item.targets f a n)) (at p k) (targets_step f a n p k)
   meets_targets f a n p k =
       meets_or_else kind (Means kind (Item.targets f a n)) _ _ _
-          (begins_going kind (Means kind (Item.targets f a n)) (Suffixed kind a n) (at p k) _ (λ v. read (Item.targets v.0 v.1 v.2) done) (suffix_begins kind a n p k)
-              (λ v ts x r us y m vs z. rw append-nil (subst (Assigns kind m r.3 r.4 r.0 r.1 r.2) (append_assoc vs ts us) (y m (vs ++ ts) (x f m vs z)))))
-          (meets_values_of f a n p k)
+      (begins_going kind (Means kind (Item.targets f a n)) (Suffixed kind a n) (at p k) _ (λ v. read (Item.targets v.0 v.1 v.2) done) (suffix_begins kind a n p k)
+      (λ v ts x r us y m vs z. rw append-nil (subst (Assigns kind m r.3 r.4 r.0 r.1 r.2) (append_assoc vs ts us) (y m (vs ++ ts) (x f m vs z)))))
+      (meets_values_of f a n p k)
 
   assigned_spelled : (outer : Bool) (m k : ℕ) (c : Bool) (x : Expr) (xs es : List Expr) (ts : Words) → Assigns kind m k c x xs es ts → SpellsStat kind outer m k c (stat.Assign (place x) (x ∷ xs) es) ts
   assigned_spelled outer m k c x xs es ts (assigns q y z) = SpellsStat.assign q y z
@@ -133,20 +133,20 @@ module _ (kind : ModuleKind) where
   meets_end_of_stat Called a n p k = meets_ends kind (Means kind (Item.rest_of_stat Called a n)) _ _ (λ outer m us x. rw append-nil (SpellsStat.call_stat x))
   meets_end_of_stat Target a n p k =
       meets_both kind (Means kind (Item.rest_of_stat Target a n)) (Means kind (Item.targets Target a n)) (at p k) _ _ _ (meets_values_of Target a n p k) (λ r x. meets_stuck kind _ _)
-          (λ r ts x outer m us y. rw append-nil (assigned_spelled outer m r.3 r.4 r.0 r.1 r.2 _ (x m us y)))
+      (λ r ts x outer m us y. rw append-nil (assigned_spelled outer m r.3 r.4 r.0 r.1 r.2 _ (x m us y)))
   meets_end_of_stat Enclosed a n p k = meets_stuck kind _ _
 
   pub meets_rest_of_stat : (f : Form) (a : Expr) (n : ℕ) (p : Pos) (k : WordKind) → Meets kind (Means kind (Item.rest_of_stat f a n)) (at p k) (rest_of_stat_step f a n p k)
   meets_rest_of_stat f a n p k =
       meets_or_else kind (Means kind (Item.rest_of_stat f a n)) _ _ _
-          (begins_going kind (Means kind (Item.rest_of_stat f a n)) (Suffixed kind a n) (at p k) _ (λ v. read (Item.rest_of_stat v.0 v.1 v.2) done) (suffix_begins kind a n p k)
-              (λ v ts x r us y outer m vs z. rw append-nil (subst (SpellsStat kind outer m r.1 r.2 r.0) (append_assoc vs ts us) (y outer m (vs ++ ts) (x f m vs z)))))
-          (meets_end_of_stat f a n p k)
+      (begins_going kind (Means kind (Item.rest_of_stat f a n)) (Suffixed kind a n) (at p k) _ (λ v. read (Item.rest_of_stat v.0 v.1 v.2) done) (suffix_begins kind a n p k)
+      (λ v ts x r us y outer m vs z. rw append-nil (subst (SpellsStat kind outer m r.1 r.2 r.0) (append_assoc vs ts us) (y outer m (vs ++ ts) (x f m vs z)))))
+      (meets_end_of_stat f a n p k)
 
   pub meets_next_target : (n : ℕ) (p : Pos) (k : WordKind) → Meets kind (Means kind (Item.next_target n)) (at p k) (step kind (Item.next_target n) p k)
   meets_next_target n p k =
       meets_if kind (Means kind (Item.next_target n)) (sign s.OpenParen) p k _ _
-          (λ a us x q r ts y. rw append-nil (subst (Assigns kind n r.3 r.4 r.0 r.1 r.2) (append_assoc (symbol s.OpenParen p ∷ us) (symbol s.CloseParen q ∷ []) ts) (y n (symbol s.OpenParen p ∷ us ++ symbol s.CloseParen q ∷ []) (SpellsPrefix.paren p q (x one_fits)))))
+      (λ a us x q r ts y. rw append-nil (subst (Assigns kind n r.3 r.4 r.0 r.1 r.2) (append_assoc (symbol s.OpenParen p ∷ us) (symbol s.CloseParen q ∷ []) ts) (y n (symbol s.OpenParen p ∷ us ++ symbol s.CloseParen q ∷ []) (SpellsPrefix.paren p q (x one_fits)))))
       (meets_name kind (Means kind (Item.next_target n)) p k _ _ (λ x. meets_takes kind (Means kind (Item.next_target n)) _ _ (λ r ts y. rw append-nil (y n (named (name_at p x) ∷ []) (SpellsPrefix.name n (name_at p x))))) (meets_stuck kind _ _))
 
   interface_spelled : (n : ℕ) (p : Pos) (x : Name) (fs : List TypeField) (ts : Words) → kind ≡ module_kind.Typed → EndedInterface fs ts → SpellsStat kind true n n true (stat.Interface p x fs) (named (name_at p (codes "interface")) ∷ named x ∷ ts)
@@ -155,7 +155,7 @@ module _ (kind : ModuleKind) where
   meets_type_stat : (outer : Bool) (x : Name) (n : ℕ) (p : Pos) (y : List ℕ) → outer ≡ true → kind ≡ module_kind.Typed → Meets kind (Means kind (Item.behind_name outer x n)) (named (name_at p y)) (type_stat_step x n p y)
   meets_type_stat outer x n p y f g =
       meets_either kind (Means kind (Item.behind_name outer x n)) _ _ _ _
-          (λ h. meets_takes kind (Means kind (Item.behind_name outer x n)) _ _ (λ fs ts z. rw (append-nil, text_is x (codes "interface") h, f) (interface_spelled n x.pos (name_at p y) fs ts g z)))
+      (λ h. meets_takes kind (Means kind (Item.behind_name outer x n)) _ _ (λ fs ts z. rw (append-nil, text_is x (codes "interface") h, f) (interface_spelled n x.pos (name_at p y) fs ts g z)))
       (λ d. other)
     where
       other : Meets kind (Means kind (Item.behind_name outer x n)) (named (name_at p y)) (if is_text x.text (codes "typealias") then takes (want (sign s.Assign) λ _. read Item.a_type λ a. done (stat.Alias x.pos (name_at p y) a, n, true)) else stuck)
@@ -166,8 +166,8 @@ module _ (kind : ModuleKind) where
   pub meets_behind_name : (outer : Bool) (x : Name) (n : ℕ) (p : Pos) (k : WordKind) → Meets kind (Means kind (Item.behind_name outer x n)) (at p k) (step kind (Item.behind_name outer x n) p k)
   meets_behind_name outer x n p k =
       meets_either kind (Means kind (Item.behind_name outer x n)) _ _ _ _
-          (λ h. let b = both_true kind outer (is_typed kind) h in meets_name kind (Means kind (Item.behind_name outer x n)) p k _ _ (λ y. meets_type_stat outer x n p y b.0 (typed_kind kind kind b.1)) plain)
-          (λ h. plain)
+      (λ h. let b = both_true kind outer (is_typed kind) h in meets_name kind (Means kind (Item.behind_name outer x n)) p k _ _ (λ y. meets_type_stat outer x n p y b.0 (typed_kind kind kind b.1)) plain)
+      (λ h. plain)
     where
       plain : Meets kind (Means kind (Item.behind_name outer x n)) (at p k) (rest_of_stat_step Target (e.Name x.pos n x.text) (n + 1) p k)
       plain = meets_as kind (Means kind (Item.rest_of_stat Target (e.Name x.pos n x.text) (n + 1))) (Means kind (Item.behind_name outer x n)) _ _ (λ v ts y. y outer n (named x ∷ []) (SpellsPrefix.name n x)) (meets_rest_of_stat Target (e.Name x.pos n x.text) (n + 1) p k)

@@ -91,7 +91,7 @@ module _ (kind : ModuleKind) where
   pub meets_union : (a : After) (p : Pos) (k : WordKind) → Meets kind (Means kind (Item.more_of_union a)) (at p k) (member_step a p k)
   meets_union joined p k =
       meets_begun kind (Means kind (Item.more_of_union joined)) _ _ (begins_going kind (Means kind (Item.more_of_union joined)) Plain (at p k) _ _ (plain_begins p k) (λ v ts n xs us l x vs o.
-          rw (o.2, append-nil) (subst (SpellsMembers (x ∷ v ∷ xs)) (sym (append_assoc o.0 (symbol s.Pipe o.1 ∷ []) (ts ++ us))) (SpellsMembers.more_members o.1 o.3 (l v ts n.0) (headed_more ts us n.1)))))
+      rw (o.2, append-nil) (subst (SpellsMembers (x ∷ v ∷ xs)) (sym (append_assoc o.0 (symbol s.Pipe o.1 ∷ []) (ts ++ us))) (SpellsMembers.more_members o.1 o.3 (l v ts n.0) (headed_more ts us n.1)))))
   meets_union (ended InItself) p k =
       meets_if kind (Means kind (Item.more_of_union (ended InItself))) (sign s.Pipe) p k _ _ (λ m us n xs ts l x vs o. rw append-nil (SpellsMembers.more_members p o (l m.0 us n) tt))
       (meets_ends kind (Means kind (Item.more_of_union (ended InItself))) _ _ (λ x us o. rw append-nil (SpellsMembers.last_member o)))
@@ -114,8 +114,8 @@ module _ (kind : ModuleKind) where
   meets_paren : (o : Pos) (xs : List TypeExpr) (rest : Option TypeExpr) (p : Pos) (k : WordKind) → Meets kind (Means kind (Item.behind_tuple o xs rest)) (at p k) (paren_step o xs rest k)
   meets_paren o (x ∷ []) None p k =
       meets_both kind (Means kind (Item.behind_tuple o (x ∷ []) None)) (Means kind (Item.maybe_mark (t.Paren o x))) (at p k) _ _ _ (meets_mark (t.Paren o x) p k)
-          (λ y l. meets_ends kind (Means kind (Item.behind_tuple o (x ∷ []) None)) _ _ (λ us q n. paren_mark o q x us [] y n l))
-          (λ y ts l us q n. rw append-nil (paren_mark o q x us ts y n l))
+      (λ y l. meets_ends kind (Means kind (Item.behind_tuple o (x ∷ []) None)) _ _ (λ us q n. paren_mark o q x us [] y n l))
+      (λ y ts l us q n. rw append-nil (paren_mark o q x us ts y n l))
   meets_paren o [] rest p k = meets_stuck kind _ _
   meets_paren o (x ∷ []) (Some y) p k = meets_stuck kind _ _
   meets_paren o (x ∷ y ∷ xs) rest p k = meets_stuck kind _ _
@@ -189,8 +189,8 @@ module _ (kind : ModuleKind) where
   meets_field x p k =
       meets_if kind (Means kind (Item.rest_of_field x)) (sign s.Colon) p k _ _ (λ a ts n. rw append-nil (SpellsField.plain_field x p n))
       (meets_name kind (Means kind (Item.rest_of_field x)) p k _ _ (λ y. meets_either kind (Means kind (Item.rest_of_field x)) _ _ _ _
-          (λ h. meets_takes kind (Means kind (Item.rest_of_field x)) _ _ (λ q a ts n. rw (append-nil, text_is x (codes "const") h) (SpellsField.const_field x.pos (name_at p y) q n)))
-          (λ h. meets_stuck kind _ _))
+      (λ h. meets_takes kind (Means kind (Item.rest_of_field x)) _ _ (λ q a ts n. rw (append-nil, text_is x (codes "const") h) (SpellsField.const_field x.pos (name_at p y) q n)))
+      (λ h. meets_stuck kind _ _))
       (meets_stuck kind _ _))
 
   pub meets_fields : (p : Pos) (k : WordKind) → Meets kind (Means kind Item.more_of_fields) (at p k) (types_step kind Item.more_of_fields p k)
@@ -224,22 +224,22 @@ module _ (kind : ModuleKind) where
       → Means kind (Item.maybe_mark (t.Named x.pos d.0 d.1)) a vs → Means kind (Item.more_of_union (ended InItself)) xs ws → SpellsSimple (t.Array o (union_of a xs)) (symbol s.OpenBrace o ∷ named x ∷ us ++ (vs ++ (ws ++ symbol s.CloseBrace q ∷ [])))
   array_named o x d a xs us vs ws ts q n m l =
       subst (λ z. SpellsSimple (t.Array o (union_of a xs)) (symbol s.OpenBrace o ∷ named x ∷ z))
-          (append_assoc (us ++ vs) ws (symbol s.CloseBrace q ∷ []) ∙ append_assoc us vs (ws ++ symbol s.CloseBrace q ∷ []))
-          (SpellsSimple.array_type o q (union_spelled a xs (l a (named x ∷ us ++ vs) (m (named x ∷ us) (SpellsSimple.dotted_type (n x.pos))))))
+      (append_assoc (us ++ vs) ws (symbol s.CloseBrace q ∷ []) ∙ append_assoc us vs (ws ++ symbol s.CloseBrace q ∷ []))
+      (SpellsSimple.array_type o q (union_spelled a xs (l a (named x ∷ us ++ vs) (m (named x ∷ us) (SpellsSimple.dotted_type (n x.pos))))))
 
   pub meets_named_in_braces : (o : Pos) (x : Name) (p : Pos) (k : WordKind) → Meets kind (Means kind (Item.named_in_braces o x)) (at p k) (types_step kind (Item.named_in_braces o x) p k)
   meets_named_in_braces o x p k =
       meets_if kind (Means kind (Item.named_in_braces o x)) (sign s.Colon) p k _ _ (λ a us n fs ts l. rw append-nil (SpellsSimple.record_type o (l (field false x a) _ (SpellsField.plain_field x p n))))
       (meets_name kind (Means kind (Item.named_in_braces o x)) p k _ _ (λ y. meets_either kind (Means kind (Item.named_in_braces o x)) _ _ _ _
-          (λ h. meets_takes kind (Means kind (Item.named_in_braces o x)) _ _ (λ q a us n fs ts l. rw (append-nil, text_is x (codes "const") h) (SpellsSimple.record_type o (l (field true (name_at p y) a) _ (SpellsField.const_field x.pos (name_at p y) q n)))))
-          (λ h. meets_stuck kind _ _))
+      (λ h. meets_takes kind (Means kind (Item.named_in_braces o x)) _ _ (λ q a us n fs ts l. rw (append-nil, text_is x (codes "const") h) (SpellsSimple.record_type o (l (field true (name_at p y) a) _ (SpellsField.const_field x.pos (name_at p y) q n)))))
+      (λ h. meets_stuck kind _ _))
       (meets_both kind (Means kind (Item.named_in_braces o x)) (Means kind (Item.more_of_name x.text)) (at p k) _ _ _ (meets_dotted x.text p k)
-          (λ d n. meets_both kind (Means kind (Item.named_in_braces o x)) (Means kind (Item.maybe_mark (t.Named x.pos d.0 d.1))) (at p k) _ _ _ (meets_mark (t.Named x.pos d.0 d.1) p k)
-              (λ a m. meets_both kind (Means kind (Item.named_in_braces o x)) (Means kind (Item.more_of_union (ended InItself))) (at p k) _ _ _ (meets_union (ended InItself) p k)
-                  (λ xs l. meets_if kind (Means kind (Item.named_in_braces o x)) (sign s.CloseBrace) p k _ _ (array_named o x d a xs [] [] [] [] p n m l) (meets_stuck kind _ _))
-                  (λ xs ts l q. array_named o x d a xs [] [] ts [] q n m l))
-              (λ a ts m xs us l q. array_named o x d a xs [] ts us [] q n m l))
-          (λ d us n a vs m xs ws l q. array_named o x d a xs us vs ws [] q n m l)))
+      (λ d n. meets_both kind (Means kind (Item.named_in_braces o x)) (Means kind (Item.maybe_mark (t.Named x.pos d.0 d.1))) (at p k) _ _ _ (meets_mark (t.Named x.pos d.0 d.1) p k)
+      (λ a m. meets_both kind (Means kind (Item.named_in_braces o x)) (Means kind (Item.more_of_union (ended InItself))) (at p k) _ _ _ (meets_union (ended InItself) p k)
+      (λ xs l. meets_if kind (Means kind (Item.named_in_braces o x)) (sign s.CloseBrace) p k _ _ (array_named o x d a xs [] [] [] [] p n m l) (meets_stuck kind _ _))
+      (λ xs ts l q. array_named o x d a xs [] [] ts [] q n m l))
+      (λ a ts m xs us l q. array_named o x d a xs [] ts us [] q n m l))
+      (λ d us n a vs m xs ws l q. array_named o x d a xs us vs ws [] q n m l)))
 
   pub typed_kind : (k : ModuleKind) → is_typed k ≡ true → k ≡ module_kind.Typed
   typed_kind module_kind.Typed h = refl
@@ -252,14 +252,14 @@ module _ (kind : ModuleKind) where
   pub meets_annotation : (p : Pos) (k : WordKind) → Meets kind (Means kind Item.annotation) (at p k) (types_step kind Item.annotation p k)
   meets_annotation p k =
       meets_either kind (Means kind Item.annotation) _ _ _ _
-          (λ h. let b = both_true (is_typed kind) (is_sign s.Colon k) h in meets_takes kind (Means kind Item.annotation) _ _ (λ x ts n. rw (append-nil, word_is (sign s.Colon) k p b.1) (SpellsAnnotation.annotation p (typed_kind kind b.0) n)))
-          (λ h. meets_ends kind (Means kind Item.annotation) _ _ SpellsAnnotation.no_annotation)
+      (λ h. let b = both_true (is_typed kind) (is_sign s.Colon k) h in meets_takes kind (Means kind Item.annotation) _ _ (λ x ts n. rw (append-nil, word_is (sign s.Colon) k p b.1) (SpellsAnnotation.annotation p (typed_kind kind b.0) n)))
+      (λ h. meets_ends kind (Means kind Item.annotation) _ _ SpellsAnnotation.no_annotation)
 
   pub meets_outcome : (p : Pos) (k : WordKind) → Meets kind (Means kind Item.outcome) (at p k) (types_step kind Item.outcome p k)
   meets_outcome p k =
       meets_either kind (Means kind Item.outcome) _ _ _ _
-          (λ h. let b = both_true (is_typed kind) (is_sign s.Colon k) h in meets_takes kind (Means kind Item.outcome) _ _ (λ x ts n. rw (append-nil, word_is (sign s.Colon) k p b.1) (SpellsOutcome.outcome p (typed_kind kind b.0) n.1)))
-          (λ h. meets_ends kind (Means kind Item.outcome) _ _ SpellsOutcome.no_outcome)
+      (λ h. let b = both_true (is_typed kind) (is_sign s.Colon k) h in meets_takes kind (Means kind Item.outcome) _ _ (λ x ts n. rw (append-nil, word_is (sign s.Colon) k p b.1) (SpellsOutcome.outcome p (typed_kind kind b.0) n.1)))
+      (λ h. meets_ends kind (Means kind Item.outcome) _ _ SpellsOutcome.no_outcome)
 
   pub meets_negated : (o : Pos) (p : Pos) (k : WordKind) → Meets kind (Means kind (Item.negated o)) (at p k) (types_step kind (Item.negated o) p k)
   meets_negated o p k = meets_number kind (Means kind (Item.negated o)) p k _ _ (λ n. meets_takes kind (Means kind (Item.negated o)) _ _ (SpellsSimple.negative_type o p n)) (meets_stuck kind _ _)

@@ -202,7 +202,7 @@ mutual
     numeric_for : {outer : Bool} {n m k i j : ℕ} {c d : Bool} {a b : Expr} {step : Option Expr} {ss : List Stat} {end : Option Return} {ts us vs ws : Words} (p : Pos) (x : Name) (q o y z : Pos)
         → Spells kind 1 n m c a ts → Spells kind 1 m k d b us → SpellsStep kind k i step vs → SpellsBlock kind false i j ss end ws
         → SpellsStat kind outer n j false (stat.NumericFor p x a b step (block ss end))
-            (keyword w.For p ∷ named x ∷ symbol s.Assign q ∷ ts ++ (symbol s.Comma o ∷ us ++ (vs ++ (keyword w.Do y ∷ ws ++ (keyword w.End z ∷ [])))))
+        (keyword w.For p ∷ named x ∷ symbol s.Assign q ∷ ts ++ (symbol s.Comma o ∷ us ++ (vs ++ (keyword w.Do y ∷ ws ++ (keyword w.End z ∷ [])))))
     generic_for : {outer : Bool} {n m k : ℕ} {c : Bool} {xs : List Name} {es : List Expr} {ss : List Stat} {end : Option Return} {ts us vs : Words} (p q y z : Pos)
         → SpellsNames xs ts → SpellsList kind n m c es us → SpellsBlock kind false m k ss end vs
         → SpellsStat kind outer n k false (stat.GenericFor p xs es (block ss end)) (keyword w.For p ∷ ts ++ (keyword w.In q ∷ us ++ (keyword w.Do y ∷ vs ++ (keyword w.End z ∷ []))))

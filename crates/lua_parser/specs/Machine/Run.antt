@@ -7,7 +7,6 @@ use Rattle.lua_parser.specs.Grammar.Syntax.{block}
 use Rattle.lua_parser.specs.Machine.Plan.{Item, Plan, done, want, want_name, read, Reply, stuck, ends, takes, onward}
 use Rattle.lua_parser.specs.Machine.Steps.{is_mark, if_name, step}
 
-
 -- what a plan does at a word
 abbrev pub meet : {A : Type 0} → ModuleKind → Plan A → Word → Reply A
 meet kind (done a) x = ends a

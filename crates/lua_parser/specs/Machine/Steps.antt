@@ -195,8 +195,8 @@ start_plain p k =
     else (if is_sign s.Minus k then Some (read (Item.negated p) λ x. read (Item.maybe_mark x) done)
     else (if is_sign s.OpenBrace k then Some (read (Item.in_braces p) λ x. read (Item.maybe_mark x) done)
     else if_number k (λ n. Some (read (Item.maybe_mark (t.Int p n)) done)
-        ) (if_text k (λ x. Some (read (Item.maybe_mark (t.Str p x)) done)
-        ) (if_name k (λ x. Some (read (Item.more_of_name x) λ d. read (Item.maybe_mark (t.Named p d.0 d.1)) done)) None))))))
+    ) (if_text k (λ x. Some (read (Item.maybe_mark (t.Str p x)) done)
+    ) (if_name k (λ x. Some (read (Item.more_of_name x) λ d. read (Item.maybe_mark (t.Named p d.0 d.1)) done)) None))))))
 
 abbrev pub start_member : Pos → WordKind → Option (Plan (TypeExpr × After))
 start_member p k =
@@ -271,12 +271,12 @@ types_step kind (Item.in_braces o) p k =
 types_step kind (Item.named_in_braces o x) p k =
     if is_sign s.Colon k then takes (read Item.a_type λ a. read Item.more_of_fields λ fs. done (t.Record o (field false x a ∷ fs)))
     else if_name k
-        (λ y. if is_text x.text (codes "const") then takes (want (sign s.Colon) λ _. read Item.a_type λ a. read Item.more_of_fields λ fs. done (t.Record o (field true (name_at p y) a ∷ fs))) else stuck)
-        (both (name_step x.text k)
-            (λ d. both (mark_step (t.Named x.pos d.0 d.1) k)
-                (λ a. both (member_step (ended InItself) p k) (λ xs. if is_sign s.CloseBrace k then takes (done (t.Array o (union_of a xs))) else stuck) (λ xs. want (sign s.CloseBrace) λ _. done (t.Array o (union_of a xs))))
-                (λ a. read (Item.more_of_union (ended InItself)) λ xs. want (sign s.CloseBrace) λ _. done (t.Array o (union_of a xs))))
-            (λ d. read (Item.maybe_mark (t.Named x.pos d.0 d.1)) λ a. read (Item.more_of_union (ended InItself)) λ xs. want (sign s.CloseBrace) λ _. done (t.Array o (union_of a xs))))
+    (λ y. if is_text x.text (codes "const") then takes (want (sign s.Colon) λ _. read Item.a_type λ a. read Item.more_of_fields λ fs. done (t.Record o (field true (name_at p y) a ∷ fs))) else stuck)
+    (both (name_step x.text k)
+    (λ d. both (mark_step (t.Named x.pos d.0 d.1) k)
+    (λ a. both (member_step (ended InItself) p k) (λ xs. if is_sign s.CloseBrace k then takes (done (t.Array o (union_of a xs))) else stuck) (λ xs. want (sign s.CloseBrace) λ _. done (t.Array o (union_of a xs))))
+    (λ a. read (Item.more_of_union (ended InItself)) λ xs. want (sign s.CloseBrace) λ _. done (t.Array o (union_of a xs))))
+    (λ d. read (Item.maybe_mark (t.Named x.pos d.0 d.1)) λ a. read (Item.more_of_union (ended InItself)) λ xs. want (sign s.CloseBrace) λ _. done (t.Array o (union_of a xs))))
 types_step kind Item.more_of_fields p k =
     if is_sign s.Comma k then takes (read Item.next_field done) else (if is_sign s.CloseBrace k then takes (done []) else stuck)
 types_step kind Item.next_field p k =
@@ -317,9 +317,9 @@ operand n p k =
     else (if is_sign s.OpenParen k then Some (read (Item.an_expr 1 n) λ a. want (sign s.CloseParen) λ _. read (Item.suffixes Enclosed (e.Paren p a.0) a.1) λ v. done (v.1, v.2, true))
     else (if is_sign s.OpenBrace k then Some (read (Item.entries n) λ es. done (e.Table p es.0, es.1, false))
     else if_number k (λ i. Some (done (e.Int p i, n, false))
-        ) (if_text k (λ x. Some (done (e.Str p x, n, false))
-        ) (if_name k (λ x. Some (read (Item.suffixes Target (e.Name p n x) (n + 1)) λ v. done (v.1, v.2, true))
-        ) (if_unary (unary_at k) (λ o. Some (unary_plan n p o)) None)))))))))
+    ) (if_text k (λ x. Some (done (e.Str p x, n, false))
+    ) (if_name k (λ x. Some (read (Item.suffixes Target (e.Name p n x) (n + 1)) λ v. done (v.1, v.2, true))
+    ) (if_unary (unary_at k) (λ o. Some (unary_plan n p o)) None)))))))))
 
 abbrev pub start_expr : ℕ → ℕ → Pos → WordKind → Option (Plan (Expr × ℕ × Bool))
 start_expr l n p k = going (operand n p k) (λ a. read (Item.operations l unary_level a.0 a.1 a.2) done)
@@ -331,10 +331,10 @@ start_exprs n p k = going (start_expr 1 n p k) (λ a. read (Item.more_exprs a.1 
 abbrev pub operations_step : ℕ → ℕ → Expr → ℕ → Bool → WordKind → Reply (Expr × ℕ × Bool)
 operations_step l h a n c k =
     if_binary (binary_at k)
-        (λ o. if nat_le l (level o)
-            then (if nat_le (left_level o) h then takes (read (Item.an_expr (right_level o) n) λ b. read (Item.operations l (level o) (e.Binary (place a) o a b.0) b.1 b.2) done) else stuck)
-            else ends (a, n, c))
-        (ends (a, n, c))
+    (λ o. if nat_le l (level o)
+    then (if nat_le (left_level o) h then takes (read (Item.an_expr (right_level o) n) λ b. read (Item.operations l (level o) (e.Binary (place a) o a b.0) b.1 b.2) done) else stuck)
+    else ends (a, n, c))
+    (ends (a, n, c))
 
 abbrev pub called : Expr → List Expr × ℕ → Plan (Form × Expr × ℕ)
 called a es = done (Called, e.Call (place a) a es.0, es.1)
@@ -356,8 +356,8 @@ abbrev pub named_entry_step : Name → ℕ → Pos → WordKind → Reply (Entry
 named_entry_step x n p k =
     if is_sign s.Assign k then takes (read (Item.an_expr 1 n) λ a. done (entry.Named x a.0, a.1))
     else both (suffix_step Target (e.Name x.pos n x.text) (n + 1) p k)
-        (λ a. both (operations_step 1 unary_level a.1 a.2 true k) (λ c. ends (entry.Item c.0, c.1)) (λ c. done (entry.Item c.0, c.1)))
-        (λ a. read (Item.operations 1 unary_level a.1 a.2 true) λ c. done (entry.Item c.0, c.1))
+    (λ a. both (operations_step 1 unary_level a.1 a.2 true k) (λ c. ends (entry.Item c.0, c.1)) (λ c. done (entry.Item c.0, c.1)))
+    (λ a. read (Item.operations 1 unary_level a.1 a.2 true) λ c. done (entry.Item c.0, c.1))
 
 abbrev pub body_then : {A : Type 0} → ℕ → (Body × ℕ → Plan A) → Plan A
 body_then n f = read (Item.params true) λ ps. read Item.outcome λ o. read (Item.a_block false n false) λ d. want (key w.End) λ _. f (body ps.0 ps.1 o (block d.0 d.1), d.2)
@@ -383,7 +383,7 @@ exprs_step kind (Item.entries n) p k =
     if is_sign s.CloseBrace k then takes (done ([], n))
     else (if is_sign s.OpenBracket k then takes (read (Item.an_expr 1 n) λ a. want (sign s.CloseBracket) λ _. want (sign s.Assign) λ _. read (Item.an_expr 1 a.1) λ d. read (Item.behind_entry d.1) λ r. done (entry.Keyed a.0 d.0 ∷ r.0, r.1))
     else if_name k (λ x. takes (read (Item.named_or_item (name_at p x) n) λ d. read (Item.behind_entry d.1) λ r. done (d.0 ∷ r.0, r.1)))
-        (begun (going (start_expr 1 n p k) (λ a. read (Item.behind_entry a.1) λ r. done (entry.Item a.0 ∷ r.0, r.1)))))
+    (begun (going (start_expr 1 n p k) (λ a. read (Item.behind_entry a.1) λ r. done (entry.Item a.0 ∷ r.0, r.1)))))
 exprs_step kind (Item.behind_entry n) p k =
     if is_sign s.CloseBrace k then takes (done ([], n))
     else (if is_sign s.Comma k then takes (read (Item.entries n) done)
