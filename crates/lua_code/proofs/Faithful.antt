@@ -5,3 +5,4 @@ pub mod Agreement
 pub mod Names
 pub mod Expressions
 pub mod Statements
+pub mod Levels

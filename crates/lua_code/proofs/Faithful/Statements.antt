@@ -139,7 +139,7 @@ module _ (code : List Proto) (s : Setting code) where
       (sl2 : List Slot) → Kept d sl sl2 → Sees free own captured env2.bound sl2 s.captured → (env2.names ≡ env.names) × (env2.next ≡ env.next) × (env2.rest ≡ env.rest)
       → Halts code (running (at_work code s to sl2 st) s.levels w ks) s.end
 
-  new_cells_ok : (vs : List Value) (m x at pc : ℕ) (sl : List Slot) (st : List Item) (own : List (ℕ × ℕ)) (captured : List ℕ) (env : Env) (w : World) (cs : List Closure) (ks : List CodeClosure) (p : Pos)
+  pub new_cells_ok : (vs : List Value) (m x at pc : ℕ) (sl : List Slot) (st : List Item) (own : List (ℕ × ℕ)) (captured : List ℕ) (env : Env) (w : World) (cs : List Closure) (ks : List CodeClosure) (p : Pos)
       → HasAt s.placed pc (new_cells at (length vs) p) → HasAt sl at (helds vs) → Sees at own captured env.bound sl s.captured → at + length vs ≤ length sl → Alike code m w cs ks
       → Owes code m s.levels s.end (Declared at (in_slots (length vs) x at own) (at + length vs) captured sl env (pc + length vs) st) (declare_all x vs env w cs)
       → Halts code (running (at_work code s pc sl st) s.levels w ks) s.end
@@ -181,7 +181,7 @@ module _ (code : List Proto) (s : Setting code) where
       (Declared at (in_slots k x at own) (at + k) captured sl2 env (pc + k + k) st) (Declared at (in_slots k x at own) (at + k) captured sl env (pc + k + k) st)
       (λ env3 w3 ks3 f sl3 kept3 sees3 same. f sl3 (kept_on at at sl sl2 sl3 (Prim.omega arith) kept kept3) sees3 same) debt))
 
-  adjust_length : (k : ℕ) (vs : List Value) → length (adjust k vs) ≡ k
+  pub adjust_length : (k : ℕ) (vs : List Value) → length (adjust k vs) ≡ k
   adjust_length zero vs = refl
   adjust_length (suc k) [] = ap suc (adjust_length k [])
   adjust_length (suc k) (v ∷ vs) = ap suc (adjust_length k vs)

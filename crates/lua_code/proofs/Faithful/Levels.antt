@@ -1,0 +1,170 @@
+-- The code of a program has its meaning: by induction on the turns.
+use Rattle.std.proofs.Common.{◌≡◌, refl, ap, subst, sym, ◌∙◌, ℕ, zero, suc, ◌+◌, ◌-◌, ◌<◌, ◌≤◌, Bool, true, false, List, [], ◌∷◌, ◌++◌, length, map, drop, replicate, slice_get, slice_set, Option, Some, None, codes, arith}
+use Rattle.std.specs.Map.{lookup, keys_of}
+use Rattle.std.specs.Option.{is_some}
+use Rattle.std.proofs.lemmas.List.{length-map, length-append, length-replicate, map-append}
+use Rattle.tl_base.specs.declared.place.Pos.{Pos}
+use Rattle.tl_base.specs.declared.place.ModuleKind.{ModuleKind}
+use Rattle.tl_base.specs.declared.place.ModuleKind.TheVariants.{Typed, Untyped}
+use Rattle.lua_tree.specs.declared.annotation.Typed as annotation
+use Rattle.lua_tree.specs.declared.names.LibName.{LibName}
+use Rattle.lua_tree.specs.declared.names.LibName.TheVariants as lib
+use Rattle.lua_tree.specs.declared.syntax.Rest.{Rest}
+use Rattle.lua_tree.specs.Tree as tree
+use Rattle.lua_tree.specs.Tree.{Function, Block}
+use Rattle.lua_values.specs.declared.value.Value.{Value}
+use Rattle.lua_values.specs.declared.value.Value.TheVariants as value
+use Rattle.lua_meaning.specs.World.{World, write, recorded, kind_at}
+use Rattle.lua_meaning.specs.Environment.{Env, Bound, behind}
+use Rattle.lua_meaning.specs.Outcomes.{Act, Closure, Outcome, gives, raises, cut, Flow, normal, returned, broken, give, go_on, ◌>>=◌, ◌>>◌, turned, turn, closure_at, results_of}
+use Rattle.lua_meaning.specs.Trees as meant
+use Rattle.lua_meaning.specs.Trees.{Caller, Looper, Loop, adjust, declare_all}
+use Rattle.lua_meaning.specs.Calls as meant_call
+use Rattle.lua_meaning.specs.Calls.{Below, limit, apply, below_of, body_of, counted, entered, library_call, printed}
+use Rattle.lua_meaning.specs.Programs as meant_program
+use Rattle.lua_meaning.specs.Programs.{Module, Result, Ending, finished, failed, spent, ended, start, outermost, run_with, run_main, meaning}
+use Rattle.lua_code.specs.declared.code.Code.{Code}
+use Rattle.lua_code.specs.declared.code.Proto.{Proto}
+use Rattle.lua_code.specs.declared.code.Instr.{Instr}
+use Rattle.lua_code.specs.declared.code.Instr.TheVariants as instr
+use Rattle.lua_code.specs.declared.frames.Slot.{Slot}
+use Rattle.lua_code.specs.declared.frames.Slot.TheVariants as slot
+use Rattle.lua_code.specs.declared.frames.Item.{Item}
+use Rattle.lua_code.specs.declared.frames.Item.TheVariants as item
+use Rattle.lua_code.specs.Configurations.{CodeClosure, Frame, Level, caller, Config, running, calling, giving, raising, Next, go, stop, stuck, calls_at_work}
+use Rattle.lua_code.specs.Steps as steps
+use Rattle.lua_code.specs.Steps.{End, end_of, halts, step, called, enter, enter_turn, begin, frame_of, begin_turn, run}
+use Rattle.lua_code.specs.Sizes.{block_size, block_functions, block_slots}
+use Rattle.lua_code.specs.Generated.{Placed, one, Scope, in_slots, inside, inner_captured, captures_in, module_scope, module_place, block_code, body_code, new_cells, proto_of, block_protos, main_protos, inner_protos, program, behind_block}
+use Rattle.lua_code.specs.Faithful.{IsFaithful}
+use Rattle.lua_code.proofs.Faithful.Lists.{HasAt, has_front, has_next, has_all}
+use Rattle.lua_code.proofs.Faithful.Lengths.{new_cells_length, block_length}
+use Rattle.lua_code.proofs.Faithful.Agreement.{Halts, step_on, step_end, Made, MadeOf, MadeWith, AllMade, Alike, Owes, owes_then, owes_map, owes_fewer, Given, Setting, at_work, does, comes_by, moved, end_with}
+use Rattle.lua_code.proofs.Faithful.Names.{Kept, kept_same, Sees, sees_kept}
+use Rattle.lua_code.proofs.Faithful.Expressions.{CallOk, Views}
+use Rattle.lua_code.proofs.Faithful.Statements.{Flows, OwesFlow, LoopOk, Declared, helds, new_cells_ok, adjust_length, block_sim, whiles_ok, repeats_ok, counts_ok, eaches_ok}
+
+module _ (code : List Proto) where
+  -- what is done with fewer turns does what it means
+  record BelowOk (n : ℕ) (below : Below) : Type 0 where
+    enters : (c m : ℕ) → m < n → (k : Closure) (q : CodeClosure) (vs : List Value) (w : World) (cs : List Closure) (ks : List CodeClosure) (lv : List Level) (r : End) → calls_at_work lv + 1 + c ≡ limit
+        → Made code k q → Alike code m w cs ks → Owes code m lv r (Given code lv r) (below.enter c k vs w cs)
+        → (proto : Proto) → slice_get code q.function ≡ Some proto → Halts code (running (frame_of q.function proto q.cells vs) lv w ks) r
+    loops : (c : ℕ) (s : Setting code) → calls_at_work s.levels + 1 + c ≡ limit → LoopOk code s n (below.loop c)
+
+  -- ---- calls
+
+  abbrev MadeAt : Option Closure → Option CodeClosure → Type 0
+  MadeAt None None = Unit {0}
+  MadeAt (Some k) (Some q) = Made code k q
+  MadeAt k q = ⊥
+
+  made_at : (cs : List Closure) (ks : List CodeClosure) (i : ℕ) → AllMade code cs ks → MadeAt (slice_get cs i) (slice_get ks i)
+  made_at [] [] i h = tt
+  made_at [] (q ∷ qs) i h = absurd h
+  made_at (k ∷ cs) [] i h = absurd h
+  made_at (k ∷ cs) (q ∷ qs) zero h = h.0
+  made_at (k ∷ cs) (q ∷ qs) (suc i) h = made_at cs qs i h.1
+
+  made_proto : (f : Function) (env : Env) (q : CodeClosure) → MadeOf code f env q → (proto : Proto) × (slice_get code q.function ≡ Some proto)
+  made_proto (tree.function_of ps rest rs b) env q h = (_, h.proto)
+
+  recorded_alike : (k : ModuleKind) (p : Pos) (m : ℕ) (w : World) (cs : List Closure) (ks : List CodeClosure) → Alike code m w cs ks → Alike code m (recorded k p w) cs ks
+  recorded_alike Typed p m w cs ks a = record { few = a.few; made = a.made }
+  recorded_alike Untyped p m w cs ks a = a
+
+  module _ (n : ℕ) (below : Below) (ok : BelowOk n below) where
+    -- a closure's turn has been taken
+    entered_ok : (c m : ℕ) → m < n → (ko : Option Closure) (qo : Option CodeClosure) → MadeAt ko qo → (vs : List Value) (w : World) (cs : List Closure) (ks : List CodeClosure) (lv : List Level) (r : End) → calls_at_work lv + 1 + c ≡ limit
+        → Alike code m w cs ks → Owes code m lv r (Given code lv r) (entered ko (λ k. below.enter c k vs) w cs)
+        → (before : Config) → step code before ≡ enter code qo vs lv w ks → Halts code before r
+    entered_ok c m lt None None made vs w cs ks lv r deep a debt before e = step_on code before (giving [] lv w ks) r e (debt ks a)
+    entered_ok c m lt (Some k) (Some q) made vs w cs ks lv r deep a debt before e =
+        let found : (proto : Proto) × (slice_get code q.function ≡ Some proto) = made_proto k.function k.env q made in
+        step_on code before (running (frame_of q.function found.0 q.cells vs) lv w ks) r (e ∙ ap (λ o. begin q.function o q.cells vs lv w ks) found.1)
+        (ok.enters c m lt k q vs w cs ks lv r deep made a debt found.0 found.1)
+    entered_ok c m lt None (Some q) made vs w cs ks lv r deep a debt before e = absurd made
+    entered_ok c m lt (Some k) None made vs w cs ks lv r deep a debt before e = absurd made
+
+    turned_ok : (c m : ℕ) → m ≤ n → (t : ℕ) (number : ℕ) (vs : List Value) (w : World) (cs : List Closure) (ks : List CodeClosure) (lv : List Level) (r : End) → calls_at_work lv + 1 + c ≡ limit
+        → w.turns ≡ t → Alike code m w cs ks → Owes code m lv r (Given code lv r) (go_on (turned t w cs) (λ _. closure_at number >>= (λ k. entered k (λ k. below.enter c k vs))))
+        → (before : Config) → step code before ≡ enter_turn code t number vs lv w ks → Halts code before r
+    turned_ok c m le zero number vs w cs ks lv r deep et a debt before e = step_end code before r spent w e debt
+    turned_ok c m le (suc t) number vs w cs ks lv r deep et a debt before e =
+        let few : w.turns ≤ m = a.few in
+        let less : suc t ≤ m = Prim.omega (arith, few, et) in
+        let w1 : World = record w { turns = t } in
+        entered_ok c t (Prim.omega (arith, less, le)) (slice_get cs (number - 1)) (slice_get ks (number - 1)) (made_at cs ks (number - 1) a.made) vs w1 cs ks lv r deep (record { few = Prim.omega arith; made = a.made })
+        (owes_fewer code t m lv r (entered (slice_get cs (number - 1)) (λ k. below.enter c k vs) w1 cs) (Given code lv r) (Prim.omega (arith, less)) debt) before e
+
+    library_ok : (x : LibName) (m : ℕ) (vs : List Value) (w : World) (cs : List Closure) (ks : List CodeClosure) (lv : List Level) (r : End) → Alike code m w cs ks → Owes code m lv r (Given code lv r) (library_call x vs w cs)
+        → (before : Config) → step code before ≡ steps.library x vs lv w ks → Halts code before r
+    library_ok lib.Print m vs w cs ks lv r a debt before e = step_on code before (giving [] lv (write (printed vs) w) ks) r e (debt ks (record { few = a.few; made = a.made }))
+    library_ok x m vs w cs ks lv r a debt before e = step_on code before (giving [] lv w ks) r e (debt ks a)
+
+    apply_ok : (c : ℕ) → CallOk code n c (apply below c)
+    apply_ok zero m le p (value.Closure number) vs w cs ks lv r count a debt =
+        let e : limit - calls_at_work lv ≡ 0 = Prim.omega (arith, count) in
+        step_on code _ _ r (ap (λ z. called code z p (value.Closure number) vs lv w ks) e) (debt ks a)
+    apply_ok (suc c) m le p (value.Closure number) vs w cs ks lv r count a debt =
+        let e : limit - calls_at_work lv ≡ suc c = Prim.omega (arith, count) in
+        turned_ok c m le w.turns number vs w cs ks lv r (Prim.omega (arith, count)) refl a debt (calling p (value.Closure number) vs lv w ks) (ap (λ z. called code z p (value.Closure number) vs lv w ks) e)
+    apply_ok zero m le p (value.Builtin x) vs w cs ks lv r count a debt =
+        let e : limit - calls_at_work lv ≡ 0 = Prim.omega (arith, count) in
+        step_on code _ _ r (ap (λ z. called code z p (value.Builtin x) vs lv w ks) e) (debt ks a)
+    apply_ok (suc c) m le p (value.Builtin x) vs w cs ks lv r count a debt =
+        let e : limit - calls_at_work lv ≡ suc c = Prim.omega (arith, count) in
+        library_ok x m vs w cs ks lv r a debt (calling p (value.Builtin x) vs lv w ks) (ap (λ z. called code z p (value.Builtin x) vs lv w ks) e)
+    apply_ok zero m le p value.Nil vs w cs ks lv r count a debt =
+        let e : limit - calls_at_work lv ≡ 0 = Prim.omega (arith, count) in
+        step_on code _ _ r (ap (λ z. called code z p value.Nil vs lv w ks) e) (debt ks (recorded_alike (kind_at w p) p m w cs ks a))
+    apply_ok (suc c) m le p value.Nil vs w cs ks lv r count a debt =
+        let e : limit - calls_at_work lv ≡ suc c = Prim.omega (arith, count) in
+        step_on code _ _ r (ap (λ z. called code z p value.Nil vs lv w ks) e) (debt ks (recorded_alike (kind_at w p) p m w cs ks a))
+    apply_ok zero m le p (value.Bool b) vs w cs ks lv r count a debt =
+        let e : limit - calls_at_work lv ≡ 0 = Prim.omega (arith, count) in
+        step_on code _ _ r (ap (λ z. called code z p (value.Bool b) vs lv w ks) e) (debt ks (recorded_alike (kind_at w p) p m w cs ks a))
+    apply_ok (suc c) m le p (value.Bool b) vs w cs ks lv r count a debt =
+        let e : limit - calls_at_work lv ≡ suc c = Prim.omega (arith, count) in
+        step_on code _ _ r (ap (λ z. called code z p (value.Bool b) vs lv w ks) e) (debt ks (recorded_alike (kind_at w p) p m w cs ks a))
+    apply_ok zero m le p (value.Int i) vs w cs ks lv r count a debt =
+        let e : limit - calls_at_work lv ≡ 0 = Prim.omega (arith, count) in
+        step_on code _ _ r (ap (λ z. called code z p (value.Int i) vs lv w ks) e) (debt ks (recorded_alike (kind_at w p) p m w cs ks a))
+    apply_ok (suc c) m le p (value.Int i) vs w cs ks lv r count a debt =
+        let e : limit - calls_at_work lv ≡ suc c = Prim.omega (arith, count) in
+        step_on code _ _ r (ap (λ z. called code z p (value.Int i) vs lv w ks) e) (debt ks (recorded_alike (kind_at w p) p m w cs ks a))
+    apply_ok zero m le p (value.Str t) vs w cs ks lv r count a debt =
+        let e : limit - calls_at_work lv ≡ 0 = Prim.omega (arith, count) in
+        step_on code _ _ r (ap (λ z. called code z p (value.Str t) vs lv w ks) e) (debt ks (recorded_alike (kind_at w p) p m w cs ks a))
+    apply_ok (suc c) m le p (value.Str t) vs w cs ks lv r count a debt =
+        let e : limit - calls_at_work lv ≡ suc c = Prim.omega (arith, count) in
+        step_on code _ _ r (ap (λ z. called code z p (value.Str t) vs lv w ks) e) (debt ks (recorded_alike (kind_at w p) p m w cs ks a))
+    apply_ok zero m le p (value.Table t) vs w cs ks lv r count a debt =
+        let e : limit - calls_at_work lv ≡ 0 = Prim.omega (arith, count) in
+        step_on code _ _ r (ap (λ z. called code z p (value.Table t) vs lv w ks) e) (debt ks (recorded_alike (kind_at w p) p m w cs ks a))
+    apply_ok (suc c) m le p (value.Table t) vs w cs ks lv r count a debt =
+        let e : limit - calls_at_work lv ≡ suc c = Prim.omega (arith, count) in
+        step_on code _ _ r (ap (λ z. called code z p (value.Table t) vs lv w ks) e) (debt ks (recorded_alike (kind_at w p) p m w cs ks a))
+
+    -- ---- bodies
+
+    -- from behind the parameters on
+    tail_ok : (s : Setting code) (c m : ℕ) → m ≤ n → calls_at_work s.levels + 1 + c ≡ limit → (k : ℕ) (b : Block) (p : Pos) (sc : Scope) (base : ℕ) (sl : List Slot) (env : Env) (w : World) (cs : List Closure) (ks : List CodeClosure)
+        → HasAt s.placed k (block_code b sc base k (k + block_size b) ++ (instr.Pack 0, p) ∷ one instr.Return p) → HasAt code base (block_protos b sc base) → Views sc env sl s.captured s.rest → sc.free + block_slots b ≤ length sl → Alike code m w cs ks
+        → Owes code m s.levels s.end (Given code s.levels s.end) (go_on (meant.exec_all (apply below c) (below.loop c) b env w cs) (λ flow. give (results_of flow)))
+        → Halts code (running (at_work code s k sl []) s.levels w ks) s.end
+    tail_ok s c m le deep k b p sc base sl env w cs ks has protos v room a debt =
+        let cb : Placed = block_code b sc base k (k + block_size b) in
+        let end : Placed = (instr.Pack 0, p) ∷ one instr.Return p in
+        let h : HasAt s.placed (k + block_size b) end = has_next s.placed k (k + block_size b) cb end (ap (λ z. k + z) (block_length b sc base k (k + block_size b))) has in
+        block_sim code n c (apply below c) (below.loop c) (apply_ok c) s deep (ok.loops c s deep) b m le sc base k (k + block_size b) sl env w cs ks (has_front s.placed k cb end has) protos v room a
+        (owes_then code m s.levels s.end (meant.exec_all (apply below c) (below.loop c) b env w cs) (λ flow. give (results_of flow)) (Flows code s sc.free (behind_block b sc).own (behind_block b sc).free sc.captured sl (k + block_size b) (k + block_size b)) (Given code s.levels s.end)
+        (λ flow w1 cs1 ks1 a1 k1. ending h flow w1 cs1 ks1 a1 k1) debt)
+      where
+        ending : HasAt s.placed (k + block_size b) ((instr.Pack 0, p) ∷ one instr.Return p) → (flow : Flow) (w1 : World) (cs1 : List Closure) (ks1 : List CodeClosure) → Alike code m w1 cs1 ks1
+            → Owes code m s.levels s.end (Given code s.levels s.end) (give (results_of flow) w1 cs1) → Flows code s sc.free (behind_block b sc).own (behind_block b sc).free sc.captured sl (k + block_size b) (k + block_size b) flow w1 ks1
+        ending h (normal inner) w1 cs1 ks1 a1 k1 = λ sl2 kept _.
+            does code s (k + block_size b) sl2 [] w1 ks1 (instr.Pack 0) p h.0 (does code s (k + block_size b + 1) sl2 (item.Many [] ∷ []) w1 ks1 instr.Return p h.1.0 (k1 ks1 a1))
+        ending h broken w1 cs1 ks1 a1 k1 = λ sl2 kept.
+            does code s (k + block_size b) sl2 [] w1 ks1 (instr.Pack 0) p h.0 (does code s (k + block_size b + 1) sl2 (item.Many [] ∷ []) w1 ks1 instr.Return p h.1.0 (k1 ks1 a1))
+        ending h (returned vs) w1 cs1 ks1 a1 k1 = k1 ks1 a1
