@@ -168,3 +168,102 @@ module _ (code : List Proto) where
         ending h broken w1 cs1 ks1 a1 k1 = λ sl2 kept.
             does code s (k + block_size b) sl2 [] w1 ks1 (instr.Pack 0) p h.0 (does code s (k + block_size b + 1) sl2 (item.Many [] ∷ []) w1 ks1 instr.Return p h.1.0 (k1 ks1 a1))
         ending h (returned vs) w1 cs1 ks1 a1 k1 = k1 ks1 a1
+
+    further_same : (rest : Option Rest) (k : ℕ) (vs : List Value) → meant_call.further rest k vs ≡ steps.further (is_some rest) k vs
+    further_same None k vs = refl
+    further_same (Some x) k vs = refl
+
+    -- arguments in the first slots become cells
+    abbrev NewOk : Setting code → List Value → ℕ → Type 0
+    NewOk s us k = (m x pc : ℕ) (sl : List Slot) (captured : List ℕ) (env : Env) (w : World) (cs : List Closure) (ks : List CodeClosure) (p : Pos)
+        → HasAt s.placed pc (new_cells 0 k p) → HasAt sl 0 (helds code s us) → Sees 0 [] captured env.bound sl s.captured → k ≤ length sl → Alike code m w cs ks
+        → Owes code m s.levels s.end (Declared code s 0 (in_slots k x 0 []) (0 + k) captured sl env (pc + k) []) (declare_all x us env w cs)
+        → Halts code (running (at_work code s pc sl []) s.levels w ks) s.end
+
+    new_here : (s : Setting code) (us : List Value) → NewOk s us (length us)
+    new_here s us m x pc sl captured env w cs ks p has held sees room a debt = new_cells_ok code s us m x 0 pc sl [] [] captured env w cs ks p has held sees (Prim.omega (arith, room)) a debt
+
+    new_ok : (s : Setting code) (k : ℕ) (vs : List Value) → NewOk s (adjust k vs) k
+    new_ok s k vs = subst (λ z. NewOk s (adjust k vs) z) (adjust_length code s k vs) (new_here s (adjust k vs))
+
+    body_ok : (c m : ℕ) → m ≤ n → (f : Function) (env : Env) (q : CodeClosure) (vs : List Value) (w : World) (cs : List Closure) (ks : List CodeClosure) (lv : List Level) (r : End) → calls_at_work lv + 1 + c ≡ limit
+        → MadeOf code f env q → Alike code m w cs ks → Owes code m lv r (Given code lv r) (body_of below c f env vs w cs)
+        → (proto : Proto) → slice_get code q.function ≡ Some proto → Halts code (running (frame_of q.function proto q.cells vs) lv w ks) r
+    body_ok c m le (tree.function_of ps rest rs b) env q vs w cs ks lv r deep made a debt proto there =
+        subst (λ z. Halts code (running (frame_of q.function z q.cells vs) lv w ks) r) (same_proto made.proto there)
+        (new_ok s k vs m env.next 0 slots (inner_captured made.scope) env w cs ks made.place (has_front placed 0 (new_cells 0 k made.place) rest_code (has_all placed []))
+        (subst (λ z. HasAt z 0 (helds code s (adjust k vs))) (sym (map-append (λ v. slot.Held v) (adjust k vs) others)) (has_front (helds code s (adjust k vs) ++ helds code s others) 0 (helds code s (adjust k vs)) (helds code s others) (has_all (helds code s (adjust k vs) ++ helds code s others) [])))
+        (made.keys, sym made.cells) (Prim.omega (arith, long)) a
+        (owes_then code m lv r (declare_all env.next (adjust k vs) env w cs) _ (Declared code s 0 (in_slots k env.next 0 []) (0 + k) (inner_captured made.scope) slots env (0 + k) []) (Given code lv r)
+        (λ env1 w1 cs1 ks1 a1 k1 sl2 kept sees same.
+        let long2 : length sl2 ≡ length slots = kept.long in
+        let zero_plus : 0 + k ≡ k = Prim.omega arith in
+        let h : HasAt placed k rest_code = has_next placed 0 k (new_cells 0 k made.place) rest_code (Prim.omega (arith, new_cells_length k 0 made.place)) (has_all placed []) in
+        moved code s (0 + k) k sl2 [] w1 ks1 zero_plus
+        (tail_ok s c m le deep k b made.place (inside k made.scope) made.base sl2 (behind k (record env1 { rest = meant_call.further rest k vs })) w1 cs1 ks1 h made.inner
+        (record {
+          names = made.names ∙ sym same.0; next = ap (λ z. z + k) (made.next ∙ sym same.1); more = further_same rest k vs;
+          bound = subst (λ z. Sees (0 + k) (in_slots k z 0 []) (inner_captured made.scope) env1.bound sl2 q.cells) (sym made.next) sees;
+        })
+        (Prim.omega (arith, long, long2)) a1 k1)) debt))
+      where
+        k : ℕ
+        k = length ps
+
+        placed : Placed
+        placed = body_code k b made.place (inside k made.scope) made.base
+
+        rest_code : Placed
+        rest_code = block_code b (inside k made.scope) made.base k (k + block_size b) ++ (instr.Pack 0, made.place) ∷ one instr.Return made.place
+
+        its_proto : Proto
+        its_proto = proto_of k (is_some rest) (captures_in made.scope) (k + block_slots b) placed
+
+        others : List Value
+        others = replicate (k + block_slots b - k) value.Nil
+
+        slots : List Slot
+        slots = map (λ v. slot.Held v) (adjust k vs ++ others)
+
+        s : Setting code
+        s = record { end = r; function = q.function; proto = its_proto; placed = placed; here = made.proto; instrs = refl; places = refl; captured = q.cells; rest = steps.further (is_some rest) k vs; levels = lv }
+
+        long : length slots ≡ k + block_slots b
+        long =
+            let e1 : length slots ≡ length (adjust k vs ++ others) = length-map (adjust k vs ++ others) (λ v. slot.Held v) in
+            let e2 : length (adjust k vs ++ others) ≡ length (adjust k vs) + length others = length-append (adjust k vs) others in
+            let e3 : length (adjust k vs) ≡ k = adjust_length code s k vs in
+            let e4 : length others ≡ k + block_slots b - k = length-replicate (k + block_slots b - k) value.Nil in
+            Prim.omega (arith, e1, e2, e3, e4)
+
+        same_proto : slice_get code q.function ≡ Some its_proto → slice_get code q.function ≡ Some proto → its_proto ≡ proto
+        same_proto g h = let e : Some its_proto ≡ Some proto = sym g ∙ h in Prim.cc
+
+  -- ---- every level
+
+  all_ok : (n : ℕ) → BelowOk n (below_of n)
+  all_ok zero = record {
+    enters = λ c m lt k q vs w cs ks lv r deep made a debt proto there. absurd (Prim.omega (arith, lt));
+    loops = λ c s deep. record {
+      whiles = λ m lt p e b. absurd (Prim.omega (arith, lt));
+      repeats = λ m lt p b e. absurd (Prim.omega (arith, lt));
+      counts = λ m lt x i limit step b. absurd (Prim.omega (arith, lt));
+      eaches = λ m lt q x k iterator state control b. absurd (Prim.omega (arith, lt));
+    };
+  }
+  all_ok (suc n) = record {
+    enters = λ c m lt k q vs w cs ks lv r deep made a debt proto there. body_ok n (below_of n) (all_ok n) c m (Prim.omega (arith, lt)) k.function k.env q vs w cs ks lv r deep made a debt proto there;
+    loops = λ c s deep. record {
+      whiles = λ m lt p e b. whiles_ok code n c (apply (below_of n) c) ((below_of n).loop c) (apply_ok n (below_of n) (all_ok n) c) s deep ((all_ok n).loops c s deep) m (Prim.omega (arith, lt)) p e b;
+      repeats = λ m lt p b e. repeats_ok code n c (apply (below_of n) c) ((below_of n).loop c) (apply_ok n (below_of n) (all_ok n) c) s deep ((all_ok n).loops c s deep) m (Prim.omega (arith, lt)) p b e;
+      counts = λ m lt x i limit step b. counts_ok code n c (apply (below_of n) c) ((below_of n).loop c) (apply_ok n (below_of n) (all_ok n) c) s deep ((all_ok n).loops c s deep) m (Prim.omega (arith, lt)) x i limit step b;
+      eaches = λ m lt q x k iterator state control b. eaches_ok code n c (apply (below_of n) c) ((below_of n).loop c) (apply_ok n (below_of n) (all_ok n) c) s deep ((all_ok n).loops c s deep) m (Prim.omega (arith, lt)) q x k iterator state control b;
+    };
+  }
+
+  -- ---- a whole run
+
+  end_of_run : {A : Type 0} → Outcome A → End
+  end_of_run (gives a w cs) = end_with finished w
+  end_of_run (raises v w cs) = end_with (failed v) w
+  end_of_run (cut w) = end_with spent w
