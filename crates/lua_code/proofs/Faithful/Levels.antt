@@ -1,12 +1,10 @@
 -- The code of a program has its meaning: by induction on the turns.
-use Rattle.std.proofs.Common.{◌≡◌, refl, ap, subst, sym, ◌∙◌, ℕ, zero, suc, ◌+◌, ◌-◌, ◌<◌, ◌≤◌, Bool, true, false, List, [], ◌∷◌, ◌++◌, length, map, drop, replicate, slice_get, slice_set, Option, Some, None, codes, arith}
-use Rattle.std.specs.Map.{lookup, keys_of}
+use Rattle.std.proofs.Common.{◌≡◌, refl, ap, subst, sym, ◌∙◌, ℕ, zero, suc, ◌+◌, ◌-◌, ◌<◌, ◌≤◌, false, List, [], ◌∷◌, ◌++◌, length, map, replicate, slice_get, Option, Some, None, arith}
 use Rattle.std.specs.Option.{is_some}
 use Rattle.std.proofs.lemmas.List.{length-map, length-append, length-replicate, map-append}
 use Rattle.tl_base.specs.declared.place.Pos.{Pos}
 use Rattle.tl_base.specs.declared.place.ModuleKind.{ModuleKind}
 use Rattle.tl_base.specs.declared.place.ModuleKind.TheVariants.{Typed, Untyped}
-use Rattle.lua_tree.specs.declared.annotation.Typed as annotation
 use Rattle.lua_tree.specs.declared.names.LibName.{LibName}
 use Rattle.lua_tree.specs.declared.names.LibName.TheVariants as lib
 use Rattle.lua_tree.specs.declared.syntax.Rest.{Rest}
@@ -15,23 +13,20 @@ use Rattle.lua_tree.specs.Tree.{Function, Block}
 use Rattle.lua_values.specs.declared.value.Value.{Value}
 use Rattle.lua_values.specs.declared.value.Value.TheVariants as value
 use Rattle.lua_meaning.specs.World.{World, write, recorded, kind_at}
-use Rattle.lua_meaning.specs.Environment.{Env, Bound, behind}
-use Rattle.lua_meaning.specs.Outcomes.{Act, Closure, Outcome, gives, raises, cut, Flow, normal, returned, broken, give, go_on, ◌>>=◌, ◌>>◌, turned, turn, closure_at, results_of}
+use Rattle.lua_meaning.specs.Environment.{Env, behind}
+use Rattle.lua_meaning.specs.Outcomes.{Closure, Outcome, gives, raises, cut, Flow, normal, returned, broken, give, go_on, ◌>>=◌, turned, closure_at, results_of}
 use Rattle.lua_meaning.specs.Trees as meant
 use Rattle.lua_meaning.specs.Trees.{Caller, Looper, Loop, adjust, declare_all}
 use Rattle.lua_meaning.specs.Calls as meant_call
 use Rattle.lua_meaning.specs.Calls.{Below, limit, apply, below_of, body_of, counted, entered, library_call, printed}
 use Rattle.lua_meaning.specs.Programs as meant_program
 use Rattle.lua_meaning.specs.Programs.{Module, Result, Ending, finished, failed, spent, ended, start, outermost, run_with, run_main, meaning}
-use Rattle.lua_code.specs.declared.code.Code.{Code}
 use Rattle.lua_code.specs.declared.code.Proto.{Proto}
-use Rattle.lua_code.specs.declared.code.Instr.{Instr}
 use Rattle.lua_code.specs.declared.code.Instr.TheVariants as instr
 use Rattle.lua_code.specs.declared.frames.Slot.{Slot}
 use Rattle.lua_code.specs.declared.frames.Slot.TheVariants as slot
-use Rattle.lua_code.specs.declared.frames.Item.{Item}
 use Rattle.lua_code.specs.declared.frames.Item.TheVariants as item
-use Rattle.lua_code.specs.Configurations.{CodeClosure, Frame, Level, caller, Config, running, calling, giving, raising, Next, go, stop, stuck, calls_at_work}
+use Rattle.lua_code.specs.Configurations.{CodeClosure, Level, Config, running, calling, giving, raising, calls_at_work}
 use Rattle.lua_code.specs.Steps as steps
 use Rattle.lua_code.specs.Steps.{End, end_of, halts, step, called, enter, enter_turn, begin, frame_of, begin_turn, run}
 use Rattle.lua_code.specs.Sizes.{block_size, block_functions, block_slots}
@@ -39,10 +34,10 @@ use Rattle.lua_code.specs.Generated.{Placed, one, Scope, in_slots, inside, inner
 use Rattle.lua_code.specs.Faithful.{IsFaithful}
 use Rattle.lua_code.proofs.Faithful.Lists.{HasAt, has_front, has_next, has_all}
 use Rattle.lua_code.proofs.Faithful.Lengths.{new_cells_length, block_length}
-use Rattle.lua_code.proofs.Faithful.Agreement.{Halts, step_on, step_end, Made, MadeOf, MadeWith, AllMade, Alike, Owes, owes_then, owes_map, owes_fewer, Given, Setting, at_work, does, comes_by, moved, end_with}
-use Rattle.lua_code.proofs.Faithful.Names.{Kept, kept_same, Sees, sees_kept}
+use Rattle.lua_code.proofs.Faithful.Agreement.{Halts, step_on, step_end, Made, MadeOf, AllMade, Alike, Owes, owes_then, owes_fewer, Given, Setting, at_work, does, moved, end_with}
+use Rattle.lua_code.proofs.Faithful.Names.{Sees}
 use Rattle.lua_code.proofs.Faithful.Expressions.{CallOk, Views}
-use Rattle.lua_code.proofs.Faithful.Statements.{Flows, OwesFlow, LoopOk, Declared, helds, new_cells_ok, adjust_length, block_sim, whiles_ok, repeats_ok, counts_ok, eaches_ok}
+use Rattle.lua_code.proofs.Faithful.Statements.{Flows, LoopOk, Declared, helds, new_cells_ok, adjust_length, block_sim, whiles_ok, repeats_ok, counts_ok, eaches_ok}
 
 module _ (code : List Proto) where
   -- what is done with fewer turns does what it means
@@ -202,7 +197,9 @@ module _ (code : List Proto) where
         moved code s (0 + k) k sl2 [] w1 ks1 zero_plus
         (tail_ok s c m le deep k b made.place (inside k made.scope) made.base sl2 (behind k (record env1 { rest = meant_call.further rest k vs })) w1 cs1 ks1 h made.inner
         (record {
-          names = made.names ∙ sym same.0; next = ap (λ z. z + k) (made.next ∙ sym same.1); more = further_same rest k vs;
+          names = made.names ∙ sym same.0;
+          next = ap (λ z. z + k) (made.next ∙ sym same.1);
+          more = further_same rest k vs;
           bound = subst (λ z. Sees (0 + k) (in_slots k z 0 []) (inner_captured made.scope) env1.bound sl2 q.cells) (sym made.next) sees;
         })
         (Prim.omega (arith, long, long2)) a1 k1)) debt))
@@ -263,7 +260,70 @@ module _ (code : List Proto) where
 
   -- ---- a whole run
 
-  end_of_run : {A : Type 0} → Outcome A → End
+  abbrev end_of_run : {A : Type 0} → Outcome A → End
   end_of_run (gives a w cs) = end_with finished w
   end_of_run (raises v w cs) = end_with (failed v) w
   end_of_run (cut w) = end_with spent w
+
+  pays : (m : ℕ) (o : Outcome (List Value)) → Owes code m [] (end_of_run o) (Given code [] (end_of_run o)) o
+  pays m (gives vs w cs) = λ ks a. step_end code (giving vs [] w ks) (end_with finished w) finished w refl refl
+  pays m (raises v w cs) = λ ks a. step_end code (raising v [] w ks) (end_with (failed v) w) (failed v) w refl refl
+  pays m (cut w) = refl
+
+  results : (turns : ℕ) (o : Outcome (List Value)) → steps.result_of turns (Some (end_of_run o)) ≡ Some (meant_program.result_of turns o)
+  results turns (gives vs w cs) = refl
+  results turns (raises v w cs) = refl
+  results turns (cut w) = refl
+
+main_count : (ms : List Module) (m base : ℕ) → length (main_protos ms m base) ≡ length ms
+main_count [] m base = refl
+main_count (x ∷ xs) m base = ap suc (main_count xs (m + 1) (base + block_functions x.body))
+
+module _ (x : Module) (xs : List Module) where
+  -- the functions inside the main module's block
+  inner_there : HasAt (program (x ∷ xs)).functions (length (x ∷ xs)) (block_protos x.body (module_scope x.names) (length (x ∷ xs)))
+  inner_there =
+      let mains : List Proto = main_protos (x ∷ xs) 0 (length (x ∷ xs)) in
+      let inner : List Proto = block_protos x.body (module_scope x.names) (length (x ∷ xs)) in
+      let others : List Proto = inner_protos xs (length (x ∷ xs) + block_functions x.body) in
+      has_front (mains ++ (inner ++ others)) (length (x ∷ xs)) inner others (subst (λ z. HasAt (mains ++ (inner ++ others)) z (inner ++ others)) (main_count (x ∷ xs) 0 (length (x ∷ xs))) (has_all (inner ++ others) mains))
+
+  main_long : length (map (λ v. slot.Held v) (replicate (block_slots x.body - 0) value.Nil)) ≡ block_slots x.body
+  main_long =
+      let e1 : length (map (λ v. slot.Held v) (replicate (block_slots x.body - 0) value.Nil)) ≡ length (replicate (block_slots x.body - 0) value.Nil) = length-map (replicate (block_slots x.body - 0) value.Nil) (λ v. slot.Held v) in
+      let e2 : length (replicate (block_slots x.body - 0) value.Nil) ≡ block_slots x.body - 0 = length-replicate (block_slots x.body - 0) value.Nil in
+      Prim.omega (arith, e1, e2)
+
+  halts_main : (t : ℕ) (w : World) → w.turns ≤ t
+      → Halts (program (x ∷ xs)).functions (running (frame_of 0 (proto_of 0 false [] (block_slots x.body) (body_code 0 x.body (module_place 0) (module_scope x.names) (length (x ∷ xs)))) [] []) [] w [])
+      (end_of_run (program (x ∷ xs)).functions
+      (go_on (meant.exec_all (apply (below_of (suc t)) (limit - 1)) ((below_of (suc t)).loop (limit - 1)) x.body (outermost x.names) w []) (λ flow. give (results_of flow))))
+  halts_main t w few =
+      let functions : List Proto = (program (x ∷ xs)).functions in
+      let base : ℕ = length (x ∷ xs) in
+      let sc : Scope = module_scope x.names in
+      let placed : Placed = body_code 0 x.body (module_place 0) sc base in
+      let o : Outcome (List Value) = go_on (meant.exec_all (apply (below_of (suc t)) (limit - 1)) ((below_of (suc t)).loop (limit - 1)) x.body (outermost x.names) w []) (λ flow. give (results_of flow)) in
+      let s : Setting functions = record {
+        end = end_of_run functions o;
+        function = 0;
+        proto = proto_of 0 false [] (block_slots x.body) placed;
+        placed = placed;
+        here = refl;
+        instrs = refl;
+        places = refl;
+        captured = [];
+        rest = [];
+        levels = [];
+      } in
+      tail_ok functions (suc t) (below_of (suc t)) (all_ok functions (suc t)) s (limit - 1) t (Prim.omega arith) (Prim.omega arith) 0 x.body (module_place 0) sc base (map (λ v. slot.Held v) (replicate (block_slots x.body - 0) value.Nil)) (outermost x.names) w [] []
+      (has_all placed []) inner_there (record { names = refl; next = refl; more = refl; bound = (refl, refl) }) (let e : length (map (λ v. slot.Held v) (replicate (block_slots x.body - 0) value.Nil)) ≡ block_slots x.body = main_long in Prim.omega (arith, e)) (record { few = few; made = tt }) (pays functions t o)
+
+pub faithful : (x : Module) (xs : List Module) → IsFaithful (x ∷ xs) (program (x ∷ xs))
+faithful x xs words input zero = (0, refl)
+faithful x xs words input (suc t) =
+    let functions : List Proto = (program (x ∷ xs)).functions in
+    let w : World = record (start (map (λ m. m.kind) (x ∷ xs)) words input (suc t)) { turns = t } in
+    let o : Outcome (List Value) = go_on (meant.exec_all (apply (below_of (suc t)) (limit - 1)) ((below_of (suc t)).loop (limit - 1)) x.body (outermost x.names) w []) (λ flow. give (results_of flow)) in
+    let h : Halts functions _ (end_of_run functions o) = halts_main x xs t w (Prim.omega arith) in
+    (h.steps, ap (steps.result_of (suc t)) h.is ∙ results functions (suc t) o)

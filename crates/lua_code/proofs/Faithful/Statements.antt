@@ -1,7 +1,7 @@
 -- The code of a statement does what the statement means.
-use Rattle.std.proofs.Common.{◌≡◌, refl, ap, subst, sym, ◌∙◌, ℕ, zero, suc, ◌+◌, ◌-◌, ◌<◌, ◌≤◌, max, nat_eq, cond, ℤ, pos, negsuc, ◌+ℤ◌, Bool, true, false, not, List, [], ◌∷◌, ◌++◌, length, map, drop, slice_get, slice_set, Option, Some, None, codes, arith}
+use Rattle.std.proofs.Common.{◌≡◌, refl, ap, subst, sym, ◌∙◌, ℕ, zero, suc, ◌+◌, ◌<◌, ◌≤◌, nat_eq, cond, ℤ, pos, negsuc, ◌+ℤ◌, Bool, true, false, not, List, [], ◌∷◌, ◌++◌, length, map, drop, slice_get, slice_set, Option, Some, None, arith}
 use Rattle.std.specs.Cmp.{unsigned_Decides}
-use Rattle.std.specs.Map.{lookup, keys_of}
+use Rattle.std.specs.Map.{lookup}
 use Rattle.tl_base.specs.declared.place.Pos.{Pos}
 use Rattle.tl_base.specs.declared.place.ModuleKind.{ModuleKind}
 use Rattle.tl_base.specs.declared.place.ModuleKind.TheVariants.{Typed, Untyped}
@@ -11,36 +11,34 @@ use Rattle.lua_tree.specs.declared.scoped.Use.{Use}
 use Rattle.lua_tree.specs.declared.scoped.Use.TheVariants as means
 use Rattle.lua_tree.specs.Tree as tree
 use Rattle.lua_tree.specs.Tree.{Exp, Multi, Exps, Function, Stat, Targets, Clauses, Else, Step, Block}
-use Rattle.lua_tree.specs.Places.{place_of, multi_place}
-use Rattle.lua_values.specs.Values.{is_nil, same_value}
+use Rattle.lua_tree.specs.Places.{place_of}
+use Rattle.lua_values.specs.Values.{is_nil}
 use Rattle.lua_values.specs.declared.value.Value.{Value}
 use Rattle.lua_values.specs.declared.value.Value.TheVariants as value
-use Rattle.lua_meaning.specs.World.{World, read_cell, write_cell, with_cell, pass, recorded, kind_at}
+use Rattle.lua_meaning.specs.World.{World, write_cell, with_cell, recorded, kind_at}
 use Rattle.lua_meaning.specs.Environment.{Env, Bound, cell_of, use_of, behind, with_bound, bind}
-use Rattle.lua_meaning.specs.Outcomes.{Act, Closure, Outcome, gives, raises, cut, Flow, normal, returned, broken, give, go_on, ◌>>=◌, ◌>>◌, change, look, either, turned, turn, then_do, leave_block, next_turn}
+use Rattle.lua_meaning.specs.Outcomes.{Act, Closure, Outcome, gives, raises, cut, Flow, normal, returned, broken, give, go_on, ◌>>=◌, ◌>>◌, change, either, turned, turn, then_do, leave_block, next_turn}
 use Rattle.lua_meaning.specs.Locals.{exp_locals, exps_locals, targets_locals, clauses_locals, step_locals, stat_locals, block_locals}
-use Rattle.lua_meaning.specs.Operators.{Answer, is_true, runs_for, kind_name}
+use Rattle.lua_meaning.specs.Operators.{is_true, runs_for}
 use Rattle.lua_meaning.specs.Trees as meant
 use Rattle.lua_meaning.specs.Trees.{Caller, Looper, Loop, while_again, repeat_again, counting, iterating, Spot, cell, nowhere, store, store_all, spot_of_use, declare, declare_all, adjust, first_of, bound, step_bound, first_place}
 use Rattle.lua_meaning.specs.Calls.{limit}
-use Rattle.lua_meaning.specs.Programs.{finished, failed, spent}
 use Rattle.lua_code.specs.declared.code.Proto.{Proto}
-use Rattle.lua_code.specs.declared.code.Instr.{Instr}
 use Rattle.lua_code.specs.declared.code.Instr.TheVariants as instr
 use Rattle.lua_code.specs.declared.frames.Slot.{Slot}
 use Rattle.lua_code.specs.declared.frames.Slot.TheVariants as slot
 use Rattle.lua_code.specs.declared.frames.Item.{Item}
 use Rattle.lua_code.specs.declared.frames.Item.TheVariants as item
-use Rattle.lua_code.specs.Configurations.{CodeClosure, Frame, Level, caller, Config, running, calling, giving, raising, Next, go, stop, stuck, calls_at_work}
+use Rattle.lua_code.specs.Configurations.{CodeClosure, caller, running, giving, calls_at_work}
 use Rattle.lua_code.specs.Instructions as row
 use Rattle.lua_code.specs.Instructions.{Row, act}
-use Rattle.lua_code.specs.Sizes.{exp_size, multi_size, exps_size, targets_size, step_size, stat_size, clauses_size, else_size, block_size, exp_functions, multi_functions, exps_functions, step_functions, stat_functions, clauses_functions, else_functions, block_functions, exp_slots, exps_slots, step_slots, stat_declares, block_declares, stat_slots, clauses_slots, else_slots, block_slots}
-use Rattle.lua_code.specs.Generated.{Placed, one, Scope, past, taken, in_slots, declared, behind_stat, behind_block, from_own, from_captured, captured_from, write_local, write_use, use_in, store_instr, stores, target_count, set_slots, new_cells, begin_locals, exp_code, multi_code, list_code, step_code, step_place, iterate_code, stat_code, clauses_code, else_code, block_code, exp_protos, multi_protos, exps_protos, step_protos, stat_protos, clauses_protos, else_protos, block_protos}
+use Rattle.lua_code.specs.Sizes.{exp_size, exps_size, targets_size, step_size, stat_size, clauses_size, else_size, block_size, exp_functions, exps_functions, step_functions, stat_functions, clauses_functions, block_functions, step_slots, stat_declares, block_declares, stat_slots, clauses_slots, else_slots, block_slots}
+use Rattle.lua_code.specs.Generated.{Placed, one, Scope, past, taken, in_slots, declared, behind_stat, behind_block, from_own, from_captured, captured_from, write_local, write_use, store_instr, stores, target_count, set_slots, new_cells, begin_locals, exp_code, list_code, step_code, step_place, iterate_code, stat_code, clauses_code, else_code, block_code, exp_protos, exps_protos, step_protos, stat_protos, clauses_protos, else_protos, block_protos}
 use Rattle.lua_code.proofs.Faithful.Lists.{HasAt, has_front, has_next, get_set, get_set_before, get_set_behind, length_set}
-use Rattle.lua_code.proofs.Faithful.Lengths.{exp_length, multi_length, list_length, step_length, set_slots_length, new_cells_length, begin_length, stores_length, stat_length, clauses_length, else_length, block_length, exp_count, multi_count, exps_count, step_count, stat_count, clauses_count, else_count, block_count}
-use Rattle.lua_code.proofs.Faithful.Agreement.{Halts, Alike, Owes, Given, Setting, end_with, owes_then, owes_map, owes_fewer, owes_caller, at_work, Comes, does, comes_by, moved}
+use Rattle.lua_code.proofs.Faithful.Lengths.{exp_length, list_length, step_length, set_slots_length, begin_length, stores_length, stat_length, clauses_length, block_length, exp_count, exps_count, step_count, stat_count, clauses_count, block_count}
+use Rattle.lua_code.proofs.Faithful.Agreement.{Halts, Alike, Owes, Setting, owes_then, owes_map, owes_fewer, owes_caller, at_work, Comes, does, comes_by, moved}
 use Rattle.lua_code.proofs.Faithful.Names.{Kept, kept_same, kept_set, kept_on, kept_back, Sees, sees_kept, Found, in_slot, in_captured, nowhere as not_found, found}
-use Rattle.lua_code.proofs.Faithful.Expressions.{CallOk, Views, views_past, views_taken, views_kept, Pushed, Listed, Joined, ExpOk, ListOk, unrev, exp_sim, multi_sim, list_sim}
+use Rattle.lua_code.proofs.Faithful.Expressions.{CallOk, Views, views_past, views_taken, views_kept, Pushed, Joined, exp_sim, list_sim}
 
 module _ (code : List Proto) (s : Setting code) where
   -- where a statement's code goes on, breaks to, or gives
@@ -710,7 +708,7 @@ module _ (code : List Proto) (n c : ℕ) (call : Caller) (loop : Looper) (call_o
       → HasAt s.placed turn_at (count_code code s p sc b next base turn_at) → HasAt code base (block_protos b (loop_scope code s 1 next sc) base) → Around code s sc x next env sl → Hidden code s sc (value.Int i) (value.Int limit) (value.Int step) sl
       → sc.free + (4 + block_slots b) ≤ length sl → Alike code m w cs ks
       → OwesFlow code s m sc.free sc.own (sc.free + 0) sc.captured sl (turn_at + 4 + block_size b + 1) brk
-        ((turn >> (declare x (value.Int i) env >>= (λ env1. meant.exec_all call loop b env1 >>= (λ flow. next_turn env.bound flow (λ _. loop (counting x (i +ℤ step) limit step b) env))))) w cs)
+      ((turn >> (declare x (value.Int i) env >>= (λ env1. meant.exec_all call loop b env1 >>= (λ flow. next_turn env.bound flow (λ _. loop (counting x (i +ℤ step) limit step b) env))))) w cs)
       → Halts code (running (at_work code s turn_at sl []) s.levels w ks) s.end
   count_turn x i limit step b sim m le p sc base turn_at next brk sl env w cs ks has protos around hidden room a debt =
       let f3 : ℕ = sc.free + 3 in
@@ -740,16 +738,18 @@ module _ (code : List Proto) (n c : ℕ) (call : Caller) (loop : Looper) (call_o
       (moved code s (turn_at + 1 + 1 + 1 + 1) (turn_at + 4) sl2 [] w3 ks four
       (sim l (Prim.omega (arith, less, le)) sb base (turn_at + 4) to sl2 env1 w3 cs ks (has_front s.placed (turn_at + 4) cb last h1) protos
       (record {
-        names = around.names; next = around.after; more = around.more;
+        names = around.names;
+        next = around.after;
+        more = around.more;
         bound = (around.number, Prim.omega arith, get_set sl1 f3 (slot.Cell cell) (Prim.omega (arith, room, long1)), sees_kept sc.free (sc.free + 3 + 1) sc.own sc.captured env.bound sl sl2 s.captured (Prim.omega arith) kept0 around.bound);
       })
       (Prim.omega (arith, room, long1, long2)) (record { few = a2.few; made = a2.made })
       (owes_then code l s.levels s.end (meant.exec_all call loop b env1 w3 cs) (λ flow. next_turn env.bound flow (λ _. loop (counting x (i +ℤ step) limit step b) env))
-        (Flows code s (sc.free + 3 + 1) (behind_block b sb).own (behind_block b sb).free sc.captured sl2 (turn_at + 4 + block_size b) to) (Flows code s sc.free sc.own (sc.free + 0) sc.captured sl to brk)
+      (Flows code s (sc.free + 3 + 1) (behind_block b sb).own (behind_block b sb).free sc.captured sl2 (turn_at + 4 + block_size b) to) (Flows code s sc.free sc.own (sc.free + 0) sc.captured sl to brk)
       (λ flow w4 cs4 ks4 a4 k4.
       loop_flows code s l (sc.free + 3 + 1) sc.free (behind_block b sb).own sc.own (behind_block b sb).free (sc.free + 0) sc.captured sl2 sl (turn_at + 4 + block_size b) to to brk env.bound (Prim.omega arith) kept0
-        (λ sl3 kept3. sees_kept sc.free (sc.free + 0) sc.own sc.captured env.bound sl sl3 s.captured (Prim.omega arith) kept3 around.bound) refl
-        (λ _. loop (counting x (i +ℤ step) limit step b) env) flow w4 cs4 ks4 a4
+      (λ sl3 kept3. sees_kept sc.free (sc.free + 0) sc.own sc.captured env.bound sl sl3 s.captured (Prim.omega arith) kept3 around.bound) refl
+      (λ _. loop (counting x (i +ℤ step) limit step b) env) flow w4 cs4 ks4 a4
       (λ inner k5 sl3 kept3 _.
       let kept4 : Kept sc.free sl sl3 = kept_on sc.free (sc.free + 3 + 1) sl sl2 sl3 (Prim.omega arith) kept0 kept3 in
       let long4 : length sl3 ≡ length sl = kept4.long in
@@ -777,7 +777,7 @@ module _ (code : List Proto) (n c : ℕ) (call : Caller) (loop : Looper) (call_o
       (branch (runs_for step limit i) debt)))
     where
       branch : (t : Bool) → OwesFlow code s m sc.free sc.own (sc.free + 0) sc.captured sl (turn_at + 4 + block_size b + 1) brk
-            (either t (turn >> (declare x (value.Int i) env >>= (λ env1. meant.exec_all call loop b env1 >>= (λ flow. next_turn env.bound flow (λ _. loop (counting x (i +ℤ step) limit step b) env))))) (give (normal env.bound)) w cs)
+          (either t (turn >> (declare x (value.Int i) env >>= (λ env1. meant.exec_all call loop b env1 >>= (λ flow. next_turn env.bound flow (λ _. loop (counting x (i +ℤ step) limit step b) env))))) (give (normal env.bound)) w cs)
           → Comes code s (row.step_where t sc.free turn_at i p (at_work code s (turn_at + 4 + block_size b) sl []) s.levels w ks)
       branch false k = k ks a sl (kept_same sc.free sl) (sees_kept sc.free (sc.free + 0) sc.own sc.captured env.bound sl sl s.captured (Prim.omega arith) (kept_same sc.free sl) around.bound)
       branch true k =
@@ -812,7 +812,7 @@ module _ (code : List Proto) (n c : ℕ) (call : Caller) (loop : Looper) (call_o
   step_ok : (e : Step) (m : ℕ) → m ≤ n → (p : Pos) (sc : Scope) (base pc : ℕ) (sl : List Slot) (env : Env) (next : ℤ → Act Flow) (K : Flow → World → List CodeClosure → Type 0) (w : World) (cs : List Closure) (ks : List CodeClosure)
       → HasAt s.placed pc (step_code e p sc base pc) → HasAt code base (step_protos e sc base) → Views sc env sl s.captured s.rest → sc.free + step_slots e ≤ length sl → Alike code m w cs ks
       → ((i : ℤ) (sl2 : List Slot) (w1 : World) (cs1 : List Closure) (ks1 : List CodeClosure) → Kept sc.free sl sl2 → Alike code m w1 cs1 ks1 → Owes code m s.levels s.end K (go_on (step_bound (step_place e p) i w1 cs1) next)
-        → Halts code (running (at_work code s (pc + step_size e) sl2 (item.One (value.Int i) ∷ [])) s.levels w1 ks1) s.end)
+      → Halts code (running (at_work code s (pc + step_size e) sl2 (item.One (value.Int i) ∷ [])) s.levels w1 ks1) s.end)
       → Owes code m s.levels s.end K (go_on (meant.eval_step call loop e env w cs) next) → Halts code (running (at_work code s pc sl []) s.levels w ks) s.end
   step_ok tree.no_step m le p sc base pc sl env next K w cs ks has protos v room a f debt =
       does code s pc sl [] w ks (instr.Int (pos 1)) p has.0 (f (pos 1) sl w cs ks (kept_same sc.free sl) a debt)
@@ -847,7 +847,7 @@ module _ (code : List Proto) (n c : ℕ) (call : Caller) (loop : Looper) (call_o
   prep_ok x i limit step b sim m le p q sc base pc turn_at next brk sl env w cs ks here has protos around hidden room a debt = by_step step hidden debt
     where
       branch : (step : ℤ) → Hidden code s sc (value.Int i) (value.Int limit) (value.Int step) sl → (t : Bool) → OwesFlow code s m sc.free sc.own (sc.free + 0) sc.captured sl (turn_at + 4 + block_size b + 1) brk
-            (either t (turn >> (declare x (value.Int i) env >>= (λ env1. meant.exec_all call loop b env1 >>= (λ flow. next_turn env.bound flow (λ _. loop (counting x (i +ℤ step) limit step b) env))))) (give (normal env.bound)) w cs)
+          (either t (turn >> (declare x (value.Int i) env >>= (λ env1. meant.exec_all call loop b env1 >>= (λ flow. next_turn env.bound flow (λ _. loop (counting x (i +ℤ step) limit step b) env))))) (give (normal env.bound)) w cs)
           → Comes code s (row.jump_where (not t) (turn_at + 4 + block_size b + 1) q (at_work code s pc sl []) s.levels w ks)
       branch step hidden true k = moved code s (pc + 1) turn_at sl [] w ks here (count_turn x i limit step b sim m le p sc base turn_at next brk sl env w cs ks has protos around hidden room a k)
       branch step hidden false k = k ks a sl (kept_same sc.free sl) (sees_kept sc.free (sc.free + 0) sc.own sc.captured env.bound sl sl s.captured (Prim.omega arith) (kept_same sc.free sl) around.bound)
@@ -940,7 +940,10 @@ module _ (code : List Proto) (n c : ℕ) (call : Caller) (loop : Looper) (call_o
         third = get_set sl5 (free + 2) (slot.Held (value.Int step)) (Prim.omega (arith, room, long5, long4));
       } in
       let around : Around code s sc env.next next env_b sl6 = record {
-        names = v.names; number = sym v.next; after = ap (λ k. k + (1 + exp_locals x + exp_locals z + step_locals e)) v.next; more = v.more;
+        names = v.names;
+        number = sym v.next;
+        after = ap (λ k. k + (1 + exp_locals x + exp_locals z + step_locals e)) v.next;
+        more = v.more;
         bound = sees_kept free free sc.own sc.captured env.bound sl sl6 s.captured (Prim.omega arith) kept60 v.bound;
       } in
       does code s (second + step_size e) sl5 (item.One (value.Int step) ∷ []) w3 ks3 (instr.SetSlot (free + 2)) p h3.0
@@ -958,7 +961,7 @@ module _ (code : List Proto) (n c : ℕ) (call : Caller) (loop : Looper) (call_o
       → HasAt s.placed turn_at (each_code code s p q sc b k next base turn_at) → HasAt code base (block_protos b (loop_scope code s k next sc) base) → Around code s sc x next env sl → Hidden code s sc iterator state (first_of vs) sl
       → sc.free + (3 + k + block_slots b) ≤ length sl → Alike code m w cs ks
       → OwesFlow code s m sc.free sc.own (sc.free + 0) sc.captured sl (turn_at + 2 + k + k + block_size b + 13) brk
-        ((turn >> (declare_all x (adjust k vs) env >>= (λ env1. meant.exec_all call loop b env1 >>= (λ flow. next_turn env.bound flow (λ _. loop (iterating q x k iterator state (first_of vs) b) env))))) w cs)
+      ((turn >> (declare_all x (adjust k vs) env >>= (λ env1. meant.exec_all call loop b env1 >>= (λ flow. next_turn env.bound flow (λ _. loop (iterating q x k iterator state (first_of vs) b) env))))) w cs)
       → Halts code (running (at_work code s turn_at sl (item.Many vs ∷ [])) s.levels w ks) s.end
   each_turn q x k iterator state vs b sim m le p sc base turn_at next brk sl env w cs ks has protos around hidden room a debt =
       let f3 : ℕ = sc.free + 3 in
@@ -979,7 +982,7 @@ module _ (code : List Proto) (n c : ℕ) (call : Caller) (loop : Looper) (call_o
       (begin_ok code s k vs l sc.next f3 (turn_at + 2) sl [] sc.own sc.captured env w2 cs ks p (has_front s.placed (turn_at + 2) (begin_locals f3 k p) (cb ++ ci) h1)
       (sees_kept sc.free f3 sc.own sc.captured env.bound sl sl s.captured (Prim.omega arith) (kept_same sc.free sl) around.bound) (Prim.omega (arith, room)) a2
       (owes_then code l s.levels s.end (declare_all sc.next (adjust k vs) env w2 cs) (λ env1. meant.exec_all call loop b env1 >>= (λ flow. next_turn env.bound flow (λ _. loop (iterating q x k iterator state (first_of vs) b) env)))
-        (Declared code s f3 (in_slots k sc.next f3 sc.own) (f3 + k) sc.captured sl env body_at []) (Flows code s sc.free sc.own (sc.free + 0) sc.captured sl to brk)
+      (Declared code s f3 (in_slots k sc.next f3 sc.own) (f3 + k) sc.captured sl env body_at []) (Flows code s sc.free sc.own (sc.free + 0) sc.captured sl to brk)
       (λ env1 w3 cs3 ks3 a3 k3 sl2 kept2 sees same.
       let long2 : length sl2 ≡ length sl = kept2.long in
       let kept20 : Kept sc.free sl sl2 = record { long = kept2.long; low = λ j h. kept2.low j (Prim.omega (arith, h)) } in
@@ -987,11 +990,11 @@ module _ (code : List Proto) (n c : ℕ) (call : Caller) (loop : Looper) (call_o
       (record { names = around.names ∙ sym same.0; next = around.after ∙ sym same.1; more = same.2 ∙ around.more; bound = sees })
       (Prim.omega (arith, room, long2)) a3
       (owes_then code l s.levels s.end (meant.exec_all call loop b env1 w3 cs3) (λ flow. next_turn env.bound flow (λ _. loop (iterating q x k iterator state (first_of vs) b) env))
-        (Flows code s (f3 + k) (behind_block b sb).own (behind_block b sb).free sc.captured sl2 (body_at + block_size b) to) (Flows code s sc.free sc.own (sc.free + 0) sc.captured sl to brk)
+      (Flows code s (f3 + k) (behind_block b sb).own (behind_block b sb).free sc.captured sl2 (body_at + block_size b) to) (Flows code s sc.free sc.own (sc.free + 0) sc.captured sl to brk)
       (λ flow w4 cs4 ks4 a4 k4.
       loop_flows code s l (f3 + k) sc.free (behind_block b sb).own sc.own (behind_block b sb).free (sc.free + 0) sc.captured sl2 sl (body_at + block_size b) to to brk env.bound (Prim.omega arith) kept20
-        (λ sl3 kept3. sees_kept sc.free (sc.free + 0) sc.own sc.captured env.bound sl sl3 s.captured (Prim.omega arith) kept3 around.bound) refl
-        (λ _. loop (iterating q x k iterator state (first_of vs) b) env) flow w4 cs4 ks4 a4
+      (λ sl3 kept3. sees_kept sc.free (sc.free + 0) sc.own sc.captured env.bound sl sl3 s.captured (Prim.omega arith) kept3 around.bound) refl
+      (λ _. loop (iterating q x k iterator state (first_of vs) b) env) flow w4 cs4 ks4 a4
       (λ inner k5 sl3 kept3 _.
       let kept4 : Kept sc.free sl sl3 = kept_on sc.free (f3 + k) sl sl2 sl3 (Prim.omega arith) kept20 kept3 in
       let long4 : length sl3 ≡ length sl = kept4.long in
@@ -1030,7 +1033,7 @@ module _ (code : List Proto) (n c : ℕ) (call : Caller) (loop : Looper) (call_o
       (does code s (test + 1 + 1 + 1 + 1) sl (item.Many (state ∷ control ∷ []) ∷ item.One iterator ∷ []) w ks instr.Call q h3.1.1.1.1.0
       (call_ok m le q iterator (state ∷ control ∷ []) w cs ks (caller (at_work code s (test + 1 + 1 + 1 + 1 + 1) sl []) ∷ s.levels) s.end deep a
       (owes_caller code m (at_work code s (test + 1 + 1 + 1 + 1 + 1) sl []) s.levels s.end (call q iterator (state ∷ control ∷ []) w cs)
-        (λ vs w1 ks1. Halts code (running (at_work code s (test + 1 + 1 + 1 + 1 + 1) sl (item.Many vs ∷ [])) s.levels w1 ks1) s.end) (λ vs w1 ks1 h. h)
+      (λ vs w1 ks1. Halts code (running (at_work code s (test + 1 + 1 + 1 + 1 + 1) sl (item.Many vs ∷ [])) s.levels w1 ks1) s.end) (λ vs w1 ks1 h. h)
       (owes_then code m s.levels s.end (call q iterator (state ∷ control ∷ []) w cs) _ (λ vs w1 ks1. Halts code (running (at_work code s (test + 1 + 1 + 1 + 1 + 1) sl (item.Many vs ∷ [])) s.levels w1 ks1) s.end) (Flows code s free sc.own (free + 0) sc.captured sl to brk)
       (λ vs w1 cs1 ks1 a1 k1.
       let got : Value = first_of vs in
@@ -1047,7 +1050,7 @@ module _ (code : List Proto) (n c : ℕ) (call : Caller) (loop : Looper) (call_o
       branch : (vs : List Value) (w1 : World) (cs1 : List Closure) (ks1 : List CodeClosure) → Alike code m w1 cs1 ks1
           → slice_get s.placed (turn_at + 2 + k + k + block_size b + 1 + 1 + 1 + 1 + 1 + 1 + 1 + 1 + 1 + 1 + 1 + 1) ≡ Some (instr.Pop, p) → (t : Bool)
           → OwesFlow code s m sc.free sc.own (sc.free + 0) sc.captured sl (turn_at + 2 + k + k + block_size b + 13) brk
-            (either t (give (normal env.bound)) (turn >> (declare_all x (adjust k vs) env >>= (λ env1. meant.exec_all call loop b env1 >>= (λ flow. next_turn env.bound flow (λ _. loop (iterating q x k iterator state (first_of vs) b) env))))) w1 cs1)
+          (either t (give (normal env.bound)) (turn >> (declare_all x (adjust k vs) env >>= (λ env1. meant.exec_all call loop b env1 >>= (λ flow. next_turn env.bound flow (λ _. loop (iterating q x k iterator state (first_of vs) b) env))))) w1 cs1)
           → Comes code s (row.jump_where (not t) turn_at p (at_work code s (turn_at + 2 + k + k + block_size b + 1 + 1 + 1 + 1 + 1 + 1 + 1 + 1 + 1 + 1 + 1) (slice_set sl (sc.free + 2) (slot.Held (first_of vs))) (item.Many vs ∷ [])) s.levels w1 ks1)
       branch vs w1 cs1 ks1 a1 pop true k1 =
           let sl2 : List Slot = slice_set sl (sc.free + 2) (slot.Held (first_of vs)) in
@@ -1107,8 +1110,8 @@ module _ (code : List Proto) (n c : ℕ) (call : Caller) (loop : Looper) (call_o
       let long3 : length sl3 ≡ length sl2 = length_set sl2 (free + 1) (slot.Held u1) in
       let long4 : length sl4 ≡ length sl3 = length_set sl3 free (slot.Held u0) in
       let kept : Kept free sl sl4 =
-            kept_on free free sl sl1 sl4 (Prim.omega arith) kept1 (kept_on free free sl1 sl2 sl4 (Prim.omega arith) (kept_set free (free + 2) sl1 (slot.Held u2) (Prim.omega arith))
-            (kept_on free free sl2 sl3 sl4 (Prim.omega arith) (kept_set free (free + 1) sl2 (slot.Held u1) (Prim.omega arith)) (kept_set free free sl3 (slot.Held u0) (Prim.omega arith)))) in
+      kept_on free free sl sl1 sl4 (Prim.omega arith) kept1 (kept_on free free sl1 sl2 sl4 (Prim.omega arith) (kept_set free (free + 2) sl1 (slot.Held u2) (Prim.omega arith))
+      (kept_on free free sl2 sl3 sl4 (Prim.omega arith) (kept_set free (free + 1) sl2 (slot.Held u1) (Prim.omega arith)) (kept_set free free sl3 (slot.Held u0) (Prim.omega arith)))) in
       does code s (pc + exps_size es) sl1 (item.Many vs ∷ []) w1 ks1 (instr.Spread 3) p h1.0
       (subst (λ z. Halts code (running (at_work code s (pc + exps_size es + 1) sl1 (row.spread z [])) s.levels w1 ks1) s.end) (sym (three vs))
       (does code s (pc + exps_size es + 1) sl1 (item.One u2 ∷ item.One u1 ∷ item.One u0 ∷ []) w1 ks1 (instr.SetSlot (free + 2)) p h1.1.0
