@@ -37,7 +37,8 @@ use Rattle.lua_code.proofs.Faithful.Lengths.{new_cells_length, block_length}
 use Rattle.lua_code.proofs.Faithful.Agreement.{Halts, step_on, step_end, Made, MadeOf, AllMade, Alike, Owes, owes_then, owes_fewer, Given, Setting, at_work, does, moved, end_with}
 use Rattle.lua_code.proofs.Faithful.Names.{Sees}
 use Rattle.lua_code.proofs.Faithful.Expressions.{CallOk, Views}
-use Rattle.lua_code.proofs.Faithful.Statements.{Flows, LoopOk, Declared, helds, new_cells_ok, adjust_length, block_sim, whiles_ok, repeats_ok, counts_ok, eaches_ok}
+use Rattle.lua_code.proofs.Faithful.Debts.{Flows, LoopOk, Declared, helds, new_cells_ok, adjust_length}
+use Rattle.lua_code.proofs.Faithful.Statements.{block_sim, whiles_ok, repeats_ok, counts_ok, eaches_ok}
 
 module _ (code : List Proto) where
   -- what is done with fewer turns does what it means
