@@ -4,4 +4,6 @@ pub mod Lengths
 pub mod Agreement
 pub mod Names
 pub mod Expressions
+pub mod Debts
 pub mod Statements
+pub mod Levels

@@ -1,4 +1,5 @@
 pub mod Configurations
+pub mod Faithful
 pub mod Generated
 pub mod Instructions
 pub mod Listings

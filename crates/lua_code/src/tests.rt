@@ -105,4 +105,5 @@ fn one_instruction_is_written(rt: HostRuntime) -> Result<(), Fail> {
 #[test]
 fn laws_compute_nothing() {
     runs_end_once();
+    code_has_the_meaning();
 }

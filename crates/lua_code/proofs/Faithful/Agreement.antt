@@ -1,6 +1,6 @@
 -- When a run of code is where the meaning is, and what the code owes after a part of the run.
-use Rattle.std.proofs.Common.{◌≡◌, refl, ap, subst, sym, ◌∙◌, ℕ, zero, suc, ◌+◌, ◌-◌, ◌<◌, ◌≤◌, nat_eq, Bool, true, false, List, [], ◌∷◌, ◌++◌, length, map, slice_get, slice_set, Option, Some, None, option_map, arith}
-use Rattle.std.specs.Map.{lookup, keys_of}
+use Rattle.std.proofs.Common.{◌≡◌, refl, ap, subst, sym, ◌∙◌, ℕ, suc, ◌+◌, ◌≤◌, List, [], ◌∷◌, length, map, slice_get, Option, Some, arith}
+use Rattle.std.specs.Map.{keys_of}
 use Rattle.std.specs.Option.{is_some}
 use Rattle.tl_base.specs.declared.place.Pos.{Pos}
 use Rattle.lua_tree.specs.declared.annotation.Typed.{Typed}
@@ -9,16 +9,15 @@ use Rattle.lua_tree.specs.Tree as tree
 use Rattle.lua_tree.specs.Tree.{Function, Block}
 use Rattle.lua_values.specs.declared.value.Value.{Value}
 use Rattle.lua_meaning.specs.World.{World}
-use Rattle.lua_meaning.specs.Environment.{Env, Bound, behind, with_bound}
-use Rattle.lua_meaning.specs.Outcomes.{Act, Closure, Outcome, gives, raises, cut, Flow, normal, returned, broken, go_on}
-use Rattle.lua_meaning.specs.Programs.{Ending, finished, failed, spent}
+use Rattle.lua_meaning.specs.Environment.{Env}
+use Rattle.lua_meaning.specs.Outcomes.{Act, Closure, Outcome, gives, raises, cut, go_on}
+use Rattle.lua_meaning.specs.Programs.{Ending, spent}
 use Rattle.lua_code.specs.declared.code.Proto.{Proto}
 use Rattle.lua_code.specs.declared.code.Instr.{Instr}
 use Rattle.lua_code.specs.declared.frames.Slot.{Slot}
-use Rattle.lua_code.specs.declared.frames.Slot.TheVariants as slot
 use Rattle.lua_code.specs.declared.frames.Item.{Item}
 use Rattle.lua_code.specs.declared.frames.Item.TheVariants as item
-use Rattle.lua_code.specs.Configurations.{CodeClosure, Frame, Level, caller, Config, running, calling, giving, raising, Next, go, stop, stuck, calls_at_work}
+use Rattle.lua_code.specs.Configurations.{CodeClosure, Frame, Level, caller, Config, running, giving, raising, Next, go, stop, stuck}
 use Rattle.lua_code.specs.Instructions.{act}
 use Rattle.lua_code.specs.Steps.{End, end_of, halts, step, instruction, instruction_in, both, obey}
 use Rattle.lua_code.specs.Sizes.{block_slots}

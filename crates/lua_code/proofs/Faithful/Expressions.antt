@@ -1,17 +1,14 @@
 -- The code of an expression does what the expression means.
-use Rattle.std.proofs.Common.{◌≡◌, refl, ap, subst, sym, ◌∙◌, ℕ, zero, suc, ◌+◌, ◌-◌, ◌<◌, ◌≤◌, max, nat_eq, pos, Bool, true, false, not, List, [], ◌∷◌, ◌++◌, length, map, slice_get, slice_set, Option, Some, None, arith}
-use Rattle.std.specs.Map.{lookup, keys_of}
+use Rattle.std.proofs.Common.{◌≡◌, refl, ap, subst, sym, ◌∙◌, ℕ, suc, ◌+◌, ◌≤◌, max, Bool, true, false, not, List, [], ◌∷◌, ◌++◌, length, map, slice_get, slice_set, Option, Some, None, arith}
 use Rattle.std.specs.Option.{is_some}
-use Rattle.std.proofs.lemmas.List.{length-append}
 use Rattle.tl_base.specs.declared.place.Pos.{Pos}
 use Rattle.tl_base.specs.declared.crossing.CrossKind.{CrossKind}
 use Rattle.tl_base.specs.declared.crossing.Crossing.{Crossing}
 use Rattle.tl_base.specs.declared.place.ModuleKind.{ModuleKind}
 use Rattle.tl_base.specs.declared.place.ModuleKind.TheVariants.{Typed, Untyped}
-use Rattle.lua_tree.specs.declared.annotation.Typed as annotation
+use Rattle.lua_tree.specs.declared.annotation.Name.{Name}
 use Rattle.lua_tree.specs.declared.scoped.Use.{Use}
 use Rattle.lua_tree.specs.declared.scoped.Use.TheVariants as means
-use Rattle.lua_tree.specs.declared.syntax.Rest.{Rest}
 use Rattle.lua_tree.specs.declared.syntax.UnaryOperator.{UnaryOperator}
 use Rattle.lua_tree.specs.declared.syntax.UnaryOperator.TheVariants as unary
 use Rattle.lua_tree.specs.declared.syntax.BinaryOperator.{BinaryOperator}
@@ -22,15 +19,14 @@ use Rattle.lua_tree.specs.Places.{place_of, multi_place}
 use Rattle.lua_values.specs.Values.{same_value}
 use Rattle.lua_values.specs.declared.value.Value.{Value}
 use Rattle.lua_values.specs.declared.value.Value.TheVariants as value
-use Rattle.lua_meaning.specs.World.{World, read_cell, write_cell, pass, recorded, kind_at}
-use Rattle.lua_meaning.specs.Environment.{Env, Bound, cell_of, use_of, behind}
-use Rattle.lua_meaning.specs.Outcomes.{Act, Closure, Outcome, gives, raises, cut, give, go_on, ◌>>=◌, ◌>>◌, change, look, either}
-use Rattle.lua_meaning.specs.Locals.{exp_locals, exps_locals}
-use Rattle.lua_meaning.specs.Operators.{Answer, value_is, wrong_kind, fails, is_true, operate, operate_on, keeps_left}
+use Rattle.lua_meaning.specs.World.{World, read_cell, pass, recorded, kind_at}
+use Rattle.lua_meaning.specs.Environment.{Env, cell_of, use_of, behind}
+use Rattle.lua_meaning.specs.Outcomes.{Closure, Outcome, gives, give, go_on, ◌>>=◌, either}
+use Rattle.lua_meaning.specs.Locals.{exp_locals}
+use Rattle.lua_meaning.specs.Operators.{Answer, value_is, wrong_kind, fails, is_true, operate, operate_on}
 use Rattle.lua_meaning.specs.Trees as meant
 use Rattle.lua_meaning.specs.Trees.{Caller, Looper, first_of, value_of_use, library_use, library_field, library_value}
 use Rattle.lua_meaning.specs.Calls.{limit}
-use Rattle.lua_meaning.specs.Programs.{finished, failed, spent}
 use Rattle.lua_code.specs.declared.code.Proto.{Proto}
 use Rattle.lua_code.specs.declared.code.Instr.{Instr}
 use Rattle.lua_code.specs.declared.code.Instr.TheVariants as instr
@@ -38,20 +34,21 @@ use Rattle.lua_code.specs.declared.frames.Slot.{Slot}
 use Rattle.lua_code.specs.declared.frames.Slot.TheVariants as slot
 use Rattle.lua_code.specs.declared.frames.Item.{Item}
 use Rattle.lua_code.specs.declared.frames.Item.TheVariants as item
-use Rattle.lua_code.specs.Configurations.{CodeClosure, Frame, Level, caller, Config, running, calling, giving, raising, Next, go, stop, stuck, calls_at_work}
+use Rattle.lua_code.specs.Configurations.{CodeClosure, Frame, Level, caller, running, calling, go, calls_at_work}
 use Rattle.lua_code.specs.Instructions as row
 use Rattle.lua_code.specs.Instructions.{Row, act}
-use Rattle.lua_code.specs.Sizes.{operator_size, operator_gap, operator_slots, exp_size, multi_size, exps_size, exp_functions, multi_functions, exps_functions, function_inner, exp_slots, multi_slots, exps_slots, block_functions, block_slots}
+use Rattle.lua_code.specs.Steps.{End}
+use Rattle.lua_code.specs.Sizes.{exp_size, multi_size, exps_size, exp_functions, exp_slots, multi_slots, exps_slots, block_functions, block_slots}
 use Rattle.lua_code.specs.Generated as generated
 use Rattle.lua_code.specs.Generated.{Placed, one, Scope, past, taken, from_own, from_captured, captured_from, read_local, read_use, use_in, field_instr, unary_instr, truth_instr, mark_at, binary_code, exp_code, multi_code, list_code, exp_protos, multi_protos, exps_protos, function_protos, captures_in, inner_captured, inside, proto_of, body_code, block_protos}
 use Rattle.lua_code.proofs.Faithful.Lists.{HasAt, has_front, has_next, get_set}
-use Rattle.lua_code.proofs.Faithful.Lengths.{exp_length, multi_length, list_length, exp_count, multi_count, exps_count, block_count}
-use Rattle.lua_code.proofs.Faithful.Agreement.{Halts, Alike, AllMade, Made, MadeWith, Owes, Given, Setting, end_with, owes_then, owes_map, owes_caller, at_work, Comes, does, comes_by, moved}
+use Rattle.lua_code.proofs.Faithful.Lengths.{exp_length, multi_length, list_length, exp_count, block_count}
+use Rattle.lua_code.proofs.Faithful.Agreement.{Halts, Alike, AllMade, Made, MadeWith, Owes, Given, Setting, owes_then, owes_map, owes_caller, at_work, Comes, does, comes_by, moved}
 use Rattle.lua_code.proofs.Faithful.Names.{Kept, kept_same, kept_set, kept_on, Sees, sees_kept, Found, in_slot, in_captured, nowhere, found, keys_seen, captures_seen}
 
 -- a call does what the call of the meaning does
 abbrev pub CallOk : List Proto → ℕ → ℕ → Caller → Type 0
-CallOk code n c call = (m : ℕ) → m ≤ n → (p : Pos) (f : Value) (vs : List Value) (w : World) (cs : List Closure) (ks : List CodeClosure) (lv : List Level) (r : _)
+CallOk code n c call = (m : ℕ) → m ≤ n → (p : Pos) (f : Value) (vs : List Value) (w : World) (cs : List Closure) (ks : List CodeClosure) (lv : List Level) (r : End)
     → calls_at_work lv + c ≡ limit → Alike code m w cs ks → Owes code m lv r (Given code lv r) (call p f vs w cs) → Halts code (calling p f vs lv w ks) r
 
 -- the function at work sees what the environment has
@@ -499,7 +496,7 @@ module _ (code : List Proto) (n c : ℕ) (call : Caller) (loop : Looper) (call_o
       (λ us w3 ks3 f3. moved code s (pc + exp_size f + exps_size es + 1) (pc + (exp_size f + exps_size es + 1)) sl3 (item.Many us ∷ st) w3 ks3 (Prim.omega arith) (f3 sl3 (kept_on sc.free sc.free sl sl2 sl3 (Prim.omega arith) kept kept3)))
       k2))) k1)) debt)
 
-  method_ok : (p : Pos) (e : Exp) (x : _) (es : Exps) → MultiOk (tree.method p e x es)
+  method_ok : (p : Pos) (e : Exp) (x : Name) (es : Exps) → MultiOk (tree.method p e x es)
   method_ok p e x es m le sc base pc sl st env w cs ks has protos v room a debt = does code s pc sl st w ks (instr.Pack 0) p has.0 (debt ks a sl (kept_same sc.free sl))
 
   simple_ok : (v : Value) (i : Instr) (p : Pos) → ((f : Frame) (w : World) (ks : List CodeClosure) → act code i p f s.levels w ks ≡ row.push_value v p f s.levels w ks)

@@ -1,18 +1,16 @@
 -- Where the code keeps the locals that the meaning has in its environment.
-use Rattle.std.proofs.Common.{◌≡◌, refl, ap, subst, sym, ◌∙◌, ℕ, zero, suc, ◌+◌, ◌-◌, ◌<◌, ◌≤◌, nat_eq, Bool, true, false, cond, List, [], ◌∷◌, ◌++◌, length, map, slice_get, slice_set, Option, Some, None, arith}
+use Rattle.std.proofs.Common.{◌≡◌, refl, ap, subst, sym, ◌∙◌, ℕ, suc, ◌+◌, ◌<◌, ◌≤◌, nat_eq, Bool, true, false, cond, List, [], ◌∷◌, ◌++◌, length, map, slice_get, slice_set, Some, None, arith}
 use Rattle.std.specs.Map.{lookup, keys_of}
 use Rattle.tl_base.specs.declared.place.Pos.{Pos}
-use Rattle.lua_values.specs.declared.value.Value.{Value}
 use Rattle.lua_meaning.specs.World.{World}
-use Rattle.lua_meaning.specs.Environment.{Env, Bound, behind, with_bound, bind}
-use Rattle.lua_code.specs.declared.code.Capture.{Capture}
+use Rattle.lua_meaning.specs.Environment.{Bound}
 use Rattle.lua_code.specs.declared.code.Capture.TheVariants as capture
 use Rattle.lua_code.specs.declared.frames.Slot.{Slot}
 use Rattle.lua_code.specs.declared.frames.Slot.TheVariants as slot
-use Rattle.lua_code.specs.Configurations.{CodeClosure, Frame, Level, Next}
+use Rattle.lua_code.specs.Configurations.{CodeClosure, Frame, Level}
 use Rattle.lua_code.specs.Instructions.{Row, capture_all, cell_in, this_cell}
-use Rattle.lua_code.specs.Generated.{Scope, past, taken, declared, in_slots, captured_from, captures_in, outer_from, inner_captured}
-use Rattle.lua_code.proofs.Faithful.Lists.{HasAt, has_all, get_set, get_set_before, get_set_behind, length_set}
+use Rattle.lua_code.specs.Generated.{captured_from, outer_from}
+use Rattle.lua_code.proofs.Faithful.Lists.{HasAt, has_all, get_set_before, length_set}
 
 -- the slots below d are as before
 pub record Kept (d : ℕ) (old new : List Slot) : Type 0 where
