@@ -19,6 +19,7 @@ pub struct Consistent {
 }
 
 impl Consistent {
+    /// Takes no memory yet; later forms may.
     pub fn new(alloc: Global) -> Result<Consistent, NoMemory> {
         Ok(Consistent { alloc })
     }

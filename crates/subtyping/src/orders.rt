@@ -13,6 +13,7 @@ pub struct Orders {
 }
 
 impl Orders {
+    /// Takes no memory yet; later forms may.
     pub fn new(alloc: Global) -> Result<Orders, NoMemory> {
         Ok(Orders { alloc })
     }

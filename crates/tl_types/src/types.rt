@@ -62,12 +62,16 @@ pub enum Ty {
     Iface(u32),
 }
 
+/// A field of a record.
 pub type Field = FieldOf<Ty>;
 
+/// Types in a row, and the type of all that follow.
 pub type Tuple = TupleOf<Ty>;
 
+/// The tuples of values that a function may give; without one it never returns.
 pub type Results = ResultsOf<Ty>;
 
+/// A function's parameters and results.
 pub type Func = FuncOf<Ty>;
 
 /// The record that each interface stands for, by its number.
