@@ -7,6 +7,6 @@ mod local;
 mod tests;
 
 pub use laws::crossing_lists_are_unique;
-pub use local::{Local, declared_for, named_type};
 use line_tree::TypeName;
 use line_types::Ty;
+pub use local::{Local, declared_for, named_type};

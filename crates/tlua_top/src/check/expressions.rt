@@ -8,10 +8,10 @@ ghost use Rattle.tl_rules.specs.Rules.{check_exp, operand, operation, operation_
 ghost use Rattle.tlua_top.specs.Check.{Answers, typed_view, flowed_view};
 
 use line_tree::{Expr, Operator};
+use line_types::{Flow, Text, Ty};
 use std::alloc::Global;
 use tl_base::{Boxed, CrossKind, Failure, NoMemory, Pos, Refusal, RefusalCode};
 use tl_rules::Local;
-use line_types::{Flow, Text, Ty};
 
 /// An expression's type and its marked tree; or what is known of a value where it flowed to, and its marked tree.
 #[derive(Debug, Drop)]

@@ -8,10 +8,10 @@ ghost use Rattle.tlua_top.specs.Check.{Answers, AnswersWith, typed_view, exps_vi
 
 use crate::check::expressions::{Typed, expression, flow_into};
 use line_tree::{Expr, Stat, TypeName};
+use line_types::Ty;
 use std::alloc::Global;
 use tl_base::{Failure, List, NoMemory, Pos};
 use tl_rules::{Local, declared_for, named_type};
-use line_types::Ty;
 
 /// Types the statements of a module and marks them.
 pub fn statements(alloc: Global, body: List<Stat>) -> Result<List<Stat>, Failure>

@@ -8,9 +8,9 @@ ghost use Rattle.tlua_top.specs.Runs.{value_of, values_of, further, state_of, Gi
 use crate::run::state::{Machine, Stop};
 use crate::run::value::Value;
 use line_tree::{Expr, Operator};
+use line_types::Text;
 use std::alloc::Global;
 use tl_base::{Bytes, List, NoMemory, Pos};
-use line_types::Text;
 
 fn apply(operator: Operator, left: i64, right: i64) -> i64
     ensures { result ≡ int_wrap w64 (apply operator left right) }

@@ -3,8 +3,8 @@ ghost use Rattle.line_meaning.specs.Values as v;
 ghost use Rattle.line_meaning.specs.Values.{kind_of, text_of};
 
 use crate::report::push_signed;
-use tl_base::{Bytes, NoMemory};
 use line_types::Text;
+use tl_base::{Bytes, NoMemory};
 
 /// A value. All that hold a string share its bytes.
 #[derive(Debug, Drop)]
