@@ -9,8 +9,8 @@ use Rattle.tl_edge.specs.declared.outside.FileBytes.{FileBytes}
 use Rattle.tl_edge.specs.Files.{bytes_of, IsAnswer}
 use Rattle.line_tree.specs.Tree.{Line, lines_of}
 use Rattle.line_types.specs.Order.{below, consistent}
-use Rattle.tl_rules.specs.Checked.{Checked, fault}
-use Rattle.tl_rules.specs.Rules.{check_module}
+use Rattle.line_rules.specs.Checked.{Checked, fault}
+use Rattle.line_rules.specs.Rules.{check_module}
 use Rattle.tlua_top.specs.declared.check.Checked.{Checked as TheChecked}
 use Rattle.tlua_top.specs.Tokens.{Text}
 use Rattle.tlua_top.specs.Grammar.{IsModule}

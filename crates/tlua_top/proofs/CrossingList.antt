@@ -17,8 +17,8 @@ use Rattle.tl_base.specs.contracts.crossing.CrossingPartialEq.TheImpl as crossin
 use Rattle.tl_base.specs.declared.crossing.CrossKind.{CrossKind}
 use Rattle.tl_base.specs.declared.crossing.CrossKind.TheVariants as cross
 use Rattle.tl_base.specs.declared.crossing.Crossing.{Crossing}
-use Rattle.tl_rules.specs.Crossings.{kind_rank, place_order, crossing_order, IsCrossingList}
-use Rattle.tl_rules.proofs.Crossings.{order_total, order_exact}
+use Rattle.line_rules.specs.Crossings.{kind_rank, place_order, crossing_order, IsCrossingList}
+use Rattle.line_rules.proofs.Crossings.{order_total, order_exact}
 
 kind_is : (j k : CrossKind) → kind_ord.cmp-value.it j k ≡ nat_cmp (kind_rank j) (kind_rank k)
 kind_is cross.Place cross.Place = refl

@@ -8,9 +8,9 @@ use Rattle.line_tree.specs.declared.tree.Stat.{Stat}
 use Rattle.line_tree.specs.Tree.{Exp, Line, exp_of, line_of, lines_of}
 use Rattle.line_types.specs.declared.types.Ty.TheVariants as ty
 use Rattle.line_types.specs.Order.{below, consistent}
-use Rattle.tl_rules.specs.Checked.{Checked, fine, fault, then_check}
-use Rattle.tl_rules.specs.Locals.{Env}
-use Rattle.tl_rules.specs.Rules.{Flowed, TypedExps, TypedLines, check_exp, flow, check_arguments, check_line, check_lines}
+use Rattle.line_rules.specs.Checked.{Checked, fine, fault, then_check}
+use Rattle.line_rules.specs.Locals.{Env}
+use Rattle.line_rules.specs.Rules.{Flowed, TypedExps, TypedLines, check_exp, flow, check_arguments, check_line, check_lines}
 use Rattle.tlua_top.specs.declared.check.expressions.Typed.{Typed}
 use Rattle.tlua_top.specs.Check.{Answers, AnswersWith, typed_view, flowed_view, exps_view, line_view, lines_view}
 

@@ -7,15 +7,15 @@ use Rattle.tl_edge.specs.declared.outside.FileBytes.{FileBytes}
 use Rattle.tl_edge.specs.Files.{bytes_of}
 use Rattle.line_tree.specs.Tree.{Line}
 use Rattle.line_types.specs.Order.{below, consistent}
-use Rattle.tl_rules.specs.Checked.{Checked, fine, fault}
-use Rattle.tl_rules.specs.Rules.{check_module}
+use Rattle.line_rules.specs.Checked.{Checked, fine, fault}
+use Rattle.line_rules.specs.Rules.{check_module}
 use Rattle.tlua_top.specs.declared.status.Status.{Status}
-use Rattle.tl_rules.specs.Crossings.{module_marks, IsCrossingList}
-use Rattle.tl_rules.proofs.Crossings.{list_unique}
+use Rattle.line_rules.specs.Crossings.{module_marks, IsCrossingList}
+use Rattle.line_rules.proofs.Crossings.{list_unique}
 use Rattle.line_meaning.specs.State.{KindError}
 use Rattle.line_meaning.specs.Program.{Outcome, normal, failed, spent}
-use Rattle.tl_sound.specs.Laws.{IsAfterOneOf}
-use Rattle.tl_sound.proofs.Sound.{errors_named}
+use Rattle.line_sound.specs.Laws.{IsAfterOneOf}
+use Rattle.line_sound.proofs.Sound.{errors_named}
 use Rattle.tlua_top.specs.Tokens.{Text}
 use Rattle.tlua_top.specs.Outcome.{Ending, only_reports}
 use Rattle.tlua_top.specs.Lines.{crossing_lines, kind_line, kind_lines, last_line}

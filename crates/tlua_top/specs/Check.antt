@@ -5,9 +5,9 @@ use Rattle.tl_base.specs.declared.refusal.Failure.TheVariants as failure
 use Rattle.line_tree.specs.declared.tree.Expr.{Expr}
 use Rattle.line_tree.specs.declared.tree.Stat.{Stat}
 use Rattle.line_tree.specs.Tree.{exp_of, line_of, lines_of}
-use Rattle.tl_rules.specs.Checked.{Checked, fine, fault}
-use Rattle.tl_rules.specs.Locals.{Env}
-use Rattle.tl_rules.specs.Rules.{TypedExp, TypedExps, TypedLine, TypedLines, Flowed}
+use Rattle.line_rules.specs.Checked.{Checked, fine, fault}
+use Rattle.line_rules.specs.Locals.{Env}
+use Rattle.line_rules.specs.Rules.{TypedExp, TypedExps, TypedLine, TypedLines, Flowed}
 use Rattle.tlua_top.specs.declared.check.expressions.Typed.{Typed}
 
 -- what the rules give, seen through f; or the first fault, with its code and its place; or want of memory

@@ -12,9 +12,9 @@ use Rattle.tl_edge.specs.declared.outside.FileBytes.{FileBytes}
 use Rattle.tl_edge.specs.Files.{bytes_of}
 use Rattle.line_tree.specs.Tree.{Exp, nothing, truth, integer, text, name, binary, mark, Line, print, declare, assign}
 use Rattle.line_types.specs.Order.{below, consistent}
-use Rattle.tl_rules.specs.Checked.{Checked, fine, fault}
-use Rattle.tl_rules.specs.Rules.{check_module}
-use Rattle.tl_rules.specs.Crossings.{module_marks, IsCrossingList}
+use Rattle.line_rules.specs.Checked.{Checked, fine, fault}
+use Rattle.line_rules.specs.Rules.{check_module}
+use Rattle.line_rules.specs.Crossings.{module_marks, IsCrossingList}
 use Rattle.line_meaning.specs.Program.{Outcome, normal, failed, spent, Result, meaning}
 use Rattle.tlua_top.specs.declared.status.Status.{Status}
 use Rattle.tlua_top.specs.declared.status.Status.TheVariants as status

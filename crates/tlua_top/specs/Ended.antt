@@ -8,9 +8,9 @@ use Rattle.tl_base.specs.declared.refusal.Failure.{Failure}
 use Rattle.tl_base.specs.declared.refusal.Failure.TheVariants as failure
 use Rattle.line_tree.specs.Tree.{Line, lines_of}
 use Rattle.line_types.specs.Order.{below, consistent}
-use Rattle.tl_rules.specs.Checked.{fine, fault}
-use Rattle.tl_rules.specs.Rules.{check_module}
-use Rattle.tl_rules.specs.Crossings.{module_marks, IsCrossingList}
+use Rattle.line_rules.specs.Checked.{fine, fault}
+use Rattle.line_rules.specs.Rules.{check_module}
+use Rattle.line_rules.specs.Crossings.{module_marks, IsCrossingList}
 use Rattle.line_meaning.specs.Values as v
 use Rattle.line_meaning.specs.Program as program
 use Rattle.tlua_top.specs.declared.check.Checked.{Checked}

@@ -7,8 +7,8 @@ mod tests;
 ghost use Rattle.std.specs.Prelude.{◌≡◌, IfOk};
 ghost use Rattle.line_tree.specs.Tree.{lines_of};
 ghost use Rattle.line_types.specs.Order.{below, consistent};
-ghost use Rattle.tl_rules.specs.Rules.{check_module};
-ghost use Rattle.tl_rules.specs.Crossings.{module_marks, IsCrossingList};
+ghost use Rattle.line_rules.specs.Rules.{check_module};
+ghost use Rattle.line_rules.specs.Crossings.{module_marks, IsCrossingList};
 ghost use Rattle.tlua_top.specs.Check.{Answers};
 
 use line_tree::Chunk;

@@ -2,16 +2,16 @@ ghost use Rattle.std.specs.Prelude.{◌≡◌, IfOk, List};
 ghost use Rattle.line_tree.specs.Tree.{exp_of};
 ghost use Rattle.line_tree.specs.Shape.{place_of};
 ghost use Rattle.line_types.specs.Order.{below, consistent};
-ghost use Rattle.tl_rules.specs.declared.local.Local.{Local};
-ghost use Rattle.tl_rules.specs.Locals.{local_of};
-ghost use Rattle.tl_rules.specs.Rules.{check_exp, operand, operation, operation_type, flow};
+ghost use Rattle.line_rules.specs.declared.local.Local.{Local};
+ghost use Rattle.line_rules.specs.Locals.{local_of};
+ghost use Rattle.line_rules.specs.Rules.{check_exp, operand, operation, operation_type, flow};
 ghost use Rattle.tlua_top.specs.Check.{Answers, typed_view, flowed_view};
 
 use line_tree::{Expr, Operator};
 use line_types::{Flow, Text, Ty};
 use std::alloc::Global;
 use tl_base::{Boxed, CrossKind, Failure, NoMemory, Pos, Refusal, RefusalCode};
-use tl_rules::Local;
+use line_rules::Local;
 
 /// An expression's type and its marked tree; or what is known of a value where it flowed to, and its marked tree.
 #[derive(Debug, Drop)]

@@ -1,6 +1,6 @@
 ghost use Rattle.std.specs.Prelude.{◌≡◌, ◌++◌, IfOk, OnOk, flat_map, map};
 ghost use Rattle.line_tree.specs.Tree.{exp_of, line_of, lines_of};
-ghost use Rattle.tl_rules.specs.Crossings.{marks_of, line_marks, module_marks, IsCrossingList};
+ghost use Rattle.line_rules.specs.Crossings.{marks_of, line_marks, module_marks, IsCrossingList};
 
 use crate::check::expressions::place;
 use line_tree::{Expr, Stat};

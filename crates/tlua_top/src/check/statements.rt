@@ -1,9 +1,9 @@
 ghost use Rattle.std.specs.Prelude.{◌≡◌, ◌++◌, IfOk, OnOk, [], ◌∷◌, List, map};
 ghost use Rattle.line_tree.specs.Tree.{exp_of, line_of, lines_of};
 ghost use Rattle.line_types.specs.Order.{below, consistent};
-ghost use Rattle.tl_rules.specs.declared.local.Local.{Local};
-ghost use Rattle.tl_rules.specs.Locals.{local_of};
-ghost use Rattle.tl_rules.specs.Rules.{check_arguments, declaration, assignment, check_line, check_lines};
+ghost use Rattle.line_rules.specs.declared.local.Local.{Local};
+ghost use Rattle.line_rules.specs.Locals.{local_of};
+ghost use Rattle.line_rules.specs.Rules.{check_arguments, declaration, assignment, check_line, check_lines};
 ghost use Rattle.tlua_top.specs.Check.{Answers, AnswersWith, typed_view, exps_view, line_view, lines_view};
 
 use crate::check::expressions::{Typed, expression, flow_into};
@@ -11,7 +11,7 @@ use line_tree::{Expr, Stat, TypeName};
 use line_types::Ty;
 use std::alloc::Global;
 use tl_base::{Failure, List, NoMemory, Pos};
-use tl_rules::{Local, declared_for, named_type};
+use line_rules::{Local, declared_for, named_type};
 
 /// Types the statements of a module and marks them.
 pub fn statements(alloc: Global, body: List<Stat>) -> Result<List<Stat>, Failure>

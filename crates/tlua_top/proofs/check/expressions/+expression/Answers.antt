@@ -7,9 +7,9 @@ use Rattle.line_tree.specs.declared.tree.Expr.TheOpen as open_expr
 use Rattle.line_tree.specs.declared.tree.Expr.TheVariants as expr
 use Rattle.line_tree.specs.Tree.{Exp, binary, exp_of}
 use Rattle.line_types.specs.Order.{below, consistent}
-use Rattle.tl_rules.specs.Checked.{fine}
-use Rattle.tl_rules.specs.Locals.{Env}
-use Rattle.tl_rules.specs.Rules.{check_exp, operation}
+use Rattle.line_rules.specs.Checked.{fine}
+use Rattle.line_rules.specs.Locals.{Env}
+use Rattle.line_rules.specs.Rules.{check_exp, operation}
 use Rattle.tlua_top.specs.declared.check.expressions.Typed.{Typed}
 use Rattle.tlua_top.specs.Check.{Answers, typed_view}
 use Rattle.tlua_top.proofs.check.expressions.+expression.Goals as goal

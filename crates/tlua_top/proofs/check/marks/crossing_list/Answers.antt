@@ -1,6 +1,6 @@
 use Rattle.std.proofs.Common.{◌≡◌, subst}
 use Rattle.line_tree.specs.Tree.{lines_of}
-use Rattle.tl_rules.specs.Crossings.{module_marks, IsCrossingList}
+use Rattle.line_rules.specs.Crossings.{module_marks, IsCrossingList}
 use Rattle.tlua_top.proofs.CrossingList.{sorted_list}
 use Rattle.tlua_top.proofs.check.marks.crossing_list.Goals as goal
 

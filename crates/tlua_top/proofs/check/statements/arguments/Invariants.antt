@@ -1,7 +1,7 @@
 use Rattle.std.proofs.Common.{◌≡◌, map}
 use Rattle.line_tree.specs.Tree.{exp_of}
 use Rattle.line_types.specs.Order.{below, consistent}
-use Rattle.tl_rules.specs.Rules.{check_arguments}
+use Rattle.line_rules.specs.Rules.{check_arguments}
 use Rattle.tlua_top.proofs.Loops.{after_exps}
 use Rattle.tlua_top.proofs.check.statements.arguments.Given as goal
 

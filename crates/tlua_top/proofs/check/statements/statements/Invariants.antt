@@ -1,7 +1,7 @@
 use Rattle.std.proofs.Common.{◌≡◌, []}
 use Rattle.line_tree.specs.Tree.{lines_of}
 use Rattle.line_types.specs.Order.{below, consistent}
-use Rattle.tl_rules.specs.Rules.{check_lines}
+use Rattle.line_rules.specs.Rules.{check_lines}
 use Rattle.tlua_top.proofs.Loops.{after_lines}
 use Rattle.tlua_top.proofs.check.statements.statements.Given as goal
 
