@@ -1,0 +1,10 @@
+pub mod Annotations
+pub mod Checked
+pub mod Crossings
+pub mod Flow
+pub mod Locals
+pub mod Operands
+pub mod Orders
+pub mod Places
+pub mod Expressions
+pub mod Statements

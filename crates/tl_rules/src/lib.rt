@@ -1,0 +1,15 @@
+//! The typing rules of typed modules, as definitions that the check's contract and the soundness law cite: so far straight-line modules.
+#![tactic(auto)]
+
+mod annotation;
+mod laws;
+mod local;
+#[cfg(test)]
+mod tests;
+
+pub use annotation::{type_place, type_written};
+pub use laws::crossing_lists_are_unique;
+pub use local::{Local, declared_for};
+use lua_tree::TypeExpr;
+use tl_base::{NoMemory, Pos};
+use tl_types::{Ty, TyError};
