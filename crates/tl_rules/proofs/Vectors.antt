@@ -1,10 +1,9 @@
 -- Worked modules, by computation.
-use Rattle.std.proofs.Common.{◌≡◌, refl, ℕ, pos, true, false, List, [], ◌∷◌, Option, Some, None, codes}
+use Rattle.std.proofs.Common.{◌≡◌, refl, ℕ, pos, true, false, List, [], ◌∷◌, Option, Some, codes}
 use Rattle.tl_base.specs.declared.place.Pos.{Pos}
 use Rattle.tl_base.specs.declared.place.ModuleKind.TheVariants.{Typed as TypedModule}
 use Rattle.tl_base.specs.declared.crossing.CrossKind.TheVariants as cross
 use Rattle.tl_base.specs.declared.refusal.RefusalCode.TheVariants as code
-use Rattle.lua_tree.specs.declared.annotation.Typed.{Typed}
 use Rattle.lua_tree.specs.declared.annotation.TypeExpr.{TypeExpr}
 use Rattle.lua_tree.specs.declared.annotation.TypeExpr.TheVariants as written
 use Rattle.lua_tree.specs.declared.names.LibName.TheVariants as lib

@@ -5,7 +5,7 @@ use Rattle.lua_tree.specs.declared.annotation.TypeExpr.{TypeExpr, Nil, Named}
 use Rattle.tl_types.specs.declared.types.Ty.{Ty}
 use Rattle.tl_types.specs.declared.types.Ty.TheVariants as ty
 use Rattle.tl_types.specs.Unions.{boolean}
-use Rattle.tl_rules.specs.Checked.{Checked, fine, fault, then_check}
+use Rattle.tl_rules.specs.Checked.{Checked, fine, fault}
 use Rattle.tl_rules.specs.Places.{type_place}
 
 -- `nil` is a word of its own

@@ -1,7 +1,6 @@
 -- The operands of operators, and the types of what operators give.
 use Rattle.std.specs.Prelude.{Bool, true, false, cond, ◌||◌}
 use Rattle.std.specs.List.{list_any, list_all}
-use Rattle.tl_base.specs.declared.place.Pos.{Pos}
 use Rattle.tl_base.specs.declared.crossing.CrossKind.TheVariants as cross
 use Rattle.tl_base.specs.declared.refusal.RefusalCode.TheVariants as code
 use Rattle.lua_tree.specs.declared.syntax.BinaryOperator.{BinaryOperator}
