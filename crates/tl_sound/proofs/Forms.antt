@@ -1,13 +1,11 @@
 -- One law for each form: what typing says of a form's parts makes its run go as typing says of the form.
-use Rattle.std.proofs.Common.{◌≡◌, refl, ap, subst, sym, ◌∙◌, ℕ, zero, suc, ◌+◌, Bool, true, false, not, ℤ, List, [], ◌∷◌, ◌++◌, length, length-append, slice_get, Option, Some, None, arith}
-use Rattle.std.specs.Prelude.{slice_index_or, slice_set, nat_eq}
-use Rattle.std.specs.Map.{lookup}
+use Rattle.std.proofs.Common.{◌≡◌, refl, ap, subst, sym, ◌∙◌, ℕ, zero, suc, ◌+◌, Bool, true, false, ℤ, List, [], ◌∷◌, ◌++◌, length, length-append, slice_get, Option, Some, None, arith}
+use Rattle.std.specs.Prelude.{slice_set}
 use Rattle.std.proofs.lemmas.List.{length-set}
 use Rattle.tl_base.specs.declared.place.Pos.{Pos}
 use Rattle.tl_base.specs.declared.crossing.CrossKind.{CrossKind}
 use Rattle.tl_base.specs.declared.crossing.Crossing.{Crossing}
 use Rattle.lua_tree.specs.declared.annotation.Typed.{Typed}
-use Rattle.lua_tree.specs.declared.names.LibName.{LibName}
 use Rattle.lua_tree.specs.declared.names.LibName.TheVariants as lib
 use Rattle.lua_tree.specs.declared.scoped.Use.{Use}
 use Rattle.lua_tree.specs.declared.scoped.Use.TheVariants as means
@@ -19,13 +17,13 @@ use Rattle.lua_tree.specs.Places.{place_of}
 use Rattle.lua_values.specs.declared.value.Value.{Value}
 use Rattle.lua_values.specs.declared.value.Value.TheVariants as value
 use Rattle.lua_meaning.specs.World.{World, read_cell, write_cell, write, pass}
-use Rattle.lua_meaning.specs.Environment.{Env as Scope, Bound, cell_of, use_of, behind, with_bound}
+use Rattle.lua_meaning.specs.Environment.{Env as Scope, Bound, cell_of, behind, with_bound}
 use Rattle.lua_meaning.specs.Outcomes.{Act, Closure, Outcome, gives, raises, cut, Flow, normal, give, go_on, ◌>>=◌, ◌>>◌, change, either, then_do}
 use Rattle.lua_meaning.specs.Locals.{exp_locals, exps_locals, stat_locals}
 use Rattle.lua_meaning.specs.Operators.{Answer, value_is, operate, keeps_left}
 use Rattle.lua_meaning.specs.Trees as meant
 use Rattle.lua_meaning.specs.Trees.{Caller, Looper, Spot, cell, store_all, declare_all, adjust, answered, first_of, value_of_use, spot_of_use}
-use Rattle.lua_meaning.specs.Calls.{Below, apply, counted, library_call, printed}
+use Rattle.lua_meaning.specs.Calls.{Below, apply, printed}
 use Rattle.tl_types.specs.declared.types.Ty.{Ty}
 use Rattle.tl_types.specs.declared.types.Ty.TheVariants as ty
 use Rattle.tl_types.specs.Unions.{is_any}
@@ -34,11 +32,11 @@ use Rattle.tl_rules.specs.Locals.{Env, number_of, local_in, local_with}
 use Rattle.tl_rules.specs.Operands.{is_ruled, operation_type}
 use Rattle.tl_rules.specs.Expressions.{truth_type}
 use Rattle.tl_rules.specs.Statements.{is_print, alone}
-use Rattle.tl_sound.proofs.Keeps.{Keep, then_keep, next_keep, give_keep, either_keep, then_do_keep, mark_keep}
-use Rattle.tl_sound.proofs.KeepsTrees.{answered_keep, declare_all_keep, store_all_keep, exp_keeps, multi_keeps, exps_keep, stat_keeps, block_keeps}
+use Rattle.tl_sound.proofs.Keeps.{Keep, then_keep, next_keep, give_keep, either_keep, then_do_keep}
+use Rattle.tl_sound.proofs.KeepsTrees.{answered_keep, declare_all_keep, store_all_keep, exp_keeps, exps_keep, stat_keeps, block_keeps}
 use Rattle.tl_sound.proofs.KeepsLevels.{BelowKeeps, apply_keep}
 use Rattle.tl_sound.proofs.Late.{Stands, Marked, AnyMark, marked_stable, passed_marked, held_any}
-use Rattle.tl_sound.proofs.Runs.{Good, good, good_holds, After, late_after, after_then, after_more}
+use Rattle.tl_sound.proofs.Runs.{good, good_holds, After, late_after, after_then, after_more}
 use Rattle.tl_sound.proofs.Values.{Has, IsInt, has_nil, has_truth, has_integer, has_text, has_known, has_operation}
 use Rattle.tl_sound.proofs.Locals.{Agree, agree_push, agree_set}
 

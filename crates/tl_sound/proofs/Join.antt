@@ -19,7 +19,7 @@ use Rattle.tl_types.specs.Sizes.{is_within}
 use Rattle.tl_types.specs.Below.{Test}
 use Rattle.tl_rules.specs.declared.local.Local.{Local}
 use Rattle.tl_rules.specs.Annotations.{annotation}
-use Rattle.tl_rules.specs.Checked.{Checked, fine, fault, then_check}
+use Rattle.tl_rules.specs.Checked.{Checked, fine, fault}
 use Rattle.tl_rules.specs.Locals.{Env, number_of, local_in, local_with, general_declared}
 use Rattle.tl_rules.specs.Operands.{is_ruled, is_integer, operand_by, operand}
 use Rattle.tl_rules.specs.Expressions.{TypedExp, operation, named_by, check_exp}

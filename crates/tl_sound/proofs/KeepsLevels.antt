@@ -1,5 +1,5 @@
 -- Every program keeps what is stable: by induction on the turns.
-use Rattle.std.proofs.Common.{ℕ, zero, suc, List, [], ◌∷◌, length}
+use Rattle.std.proofs.Common.{ℕ, zero, suc, List, [], length}
 use Rattle.tl_base.specs.declared.place.Pos.{Pos}
 use Rattle.tl_base.specs.declared.crossing.Crossing.{Crossing}
 use Rattle.lua_tree.specs.declared.names.LibName.{LibName}
@@ -10,8 +10,8 @@ use Rattle.lua_values.specs.declared.value.Value.{Value}
 use Rattle.lua_values.specs.declared.value.Value.TheVariants as value
 use Rattle.lua_meaning.specs.World.{World, write}
 use Rattle.lua_meaning.specs.Environment.{Env, behind}
-use Rattle.lua_meaning.specs.Outcomes.{Act, Closure, change, give, results_of}
-use Rattle.lua_meaning.specs.Trees.{Loop, adjust, declare_all, exec_all}
+use Rattle.lua_meaning.specs.Outcomes.{Act, Closure, change, results_of}
+use Rattle.lua_meaning.specs.Trees.{Loop, adjust, exec_all}
 use Rattle.lua_meaning.specs.Calls.{Below, apply, below_of, body_of, counted, further, library_call, printed}
 use Rattle.tl_rules.specs.Crossings.{function_marks, block_marks}
 use Rattle.tl_sound.proofs.Keeps.{Each, Stable, Keep, then_keep, next_keep, give_keep, fail_keep, turn_keep, enter_keep, kind_error_keep}

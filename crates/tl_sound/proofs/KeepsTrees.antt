@@ -1,5 +1,5 @@
 -- Every tree keeps what is stable: by induction on the tree, where calls and the further turns of loops do.
-use Rattle.std.proofs.Common.{refl, ℕ, zero, suc, ◌+◌, ℤ, pos, negsuc, ◌+ℤ◌, List, [], ◌∷◌, ◌++◌, length, drop, Option, Some, None, lit<}
+use Rattle.std.proofs.Common.{refl, ℕ, zero, suc, ◌+◌, ℤ, pos, negsuc, ◌+ℤ◌, List, [], ◌∷◌, ◌++◌, length, Option, Some, None, lit<}
 use Rattle.tl_base.specs.declared.place.Pos.{Pos}
 use Rattle.tl_base.specs.declared.crossing.Crossing.{Crossing}
 use Rattle.lua_tree.specs.declared.scoped.Use.{Use}
@@ -12,12 +12,12 @@ use Rattle.lua_values.specs.declared.value.Value.{Value}
 use Rattle.lua_values.specs.declared.value.Value.TheVariants as value
 use Rattle.lua_meaning.specs.World.{World, read_cell}
 use Rattle.lua_meaning.specs.Environment.{Env, cell_of, use_of, behind, with_bound, bind}
-use Rattle.lua_meaning.specs.Outcomes.{Act, Flow, normal, returned, broken, give, leave_block}
-use Rattle.lua_meaning.specs.Locals.{exp_locals, exps_locals, targets_locals, clauses_locals, step_locals, stat_locals, block_locals}
+use Rattle.lua_meaning.specs.Outcomes.{Act, Flow, normal, returned, broken, leave_block}
+use Rattle.lua_meaning.specs.Locals.{exp_locals, targets_locals, clauses_locals, stat_locals, block_locals}
 use Rattle.lua_meaning.specs.Operators.{Answer, value_is, wrong_kind, fails, is_true, operate, operate_on, keeps_left, runs_for}
 use Rattle.lua_meaning.specs.Trees as meant
 use Rattle.lua_meaning.specs.Trees.{Caller, Looper, Loop, while_again, repeat_again, counting, iterating, Spot, cell, nowhere, store, store_all, declare, declare_all, answered, bound, step_bound, first_place, first_of, adjust, value_of_use, library_use, library_field, spot_of_use}
-use Rattle.tl_rules.specs.Crossings.{marks_of, multi_marks, list_marks, entry_marks, function_marks, target_marks, clause_marks, else_marks, step_marks, stat_marks, block_marks}
+use Rattle.tl_rules.specs.Crossings.{marks_of, multi_marks, list_marks, target_marks, clause_marks, else_marks, step_marks, stat_marks, block_marks}
 use Rattle.tl_sound.proofs.Keeps.{Each, each_left, each_right, Stable, Keep, then_keep, next_keep, give_keep, look_keep, fail_keep, either_keep, then_do_keep, next_turn_keep, new_closure_keep, write_cell_keep, new_cell_keep, turn_keep, kind_error_keep, mark_keep}
 
 -- the marks of what is left of a loop

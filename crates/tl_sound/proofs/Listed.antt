@@ -1,14 +1,14 @@
 -- The marks that a run passes are marks of its tree.
-use Rattle.std.proofs.Common.{ℕ, ◌-◌, zero, suc, List, [], ◌∷◌, Option, Some, None}
+use Rattle.std.proofs.Common.{ℕ, ◌-◌, List, [], ◌∷◌, Option, Some, None}
 use Rattle.std.specs.Prelude.{IfSome, Contains}
 use Rattle.tl_base.specs.declared.place.Pos.{Pos}
 use Rattle.tl_base.specs.declared.place.ModuleKind.{ModuleKind}
 use Rattle.tl_base.specs.declared.place.ModuleKind.TheVariants.{Typed, Untyped}
 use Rattle.tl_base.specs.declared.crossing.Crossing.{Crossing}
 use Rattle.lua_meaning.specs.World.{KindError, World, first, kind_at, recorded}
-use Rattle.lua_meaning.specs.Outcomes.{Act, Outcome, gives, raises, cut, results_of}
+use Rattle.lua_meaning.specs.Outcomes.{Outcome, gives, raises, cut, results_of}
 use Rattle.lua_meaning.specs.Calls.{limit}
-use Rattle.lua_meaning.specs.Programs.{Module, meaning, start, run_main, result_of, outermost}
+use Rattle.lua_meaning.specs.Programs.{Module, meaning, run_main, result_of, outermost}
 use Rattle.tl_rules.specs.Crossings.{IsCrossingList}
 use Rattle.tl_sound.specs.Laws.{main_marks}
 use Rattle.tl_sound.proofs.Keeps.{Stable, Keep, Ends, then_keep, next_keep, give_keep, turn_keep}

@@ -1,5 +1,5 @@
 -- The locals of a run agree with what typing knows of them: each has a cell of its own, which holds a value of its current type.
-use Rattle.std.proofs.Common.{◌≡◌, refl, ap, subst, sym, ◌∙◌, ℕ, zero, suc, ◌+◌, ◌<◌, Bool, true, false, cond, List, [], ◌∷◌, ◌++◌, length, length-append, slice_get, Option, Some, None, ◌⊎◌, inl, inr, nat_eq, get_or, arith}
+use Rattle.std.proofs.Common.{◌≡◌, refl, ap, subst, sym, ◌∙◌, ℕ, zero, suc, ◌+◌, ◌<◌, Bool, true, false, cond, List, [], ◌∷◌, ◌++◌, length, length-append, slice_get, Option, Some, ◌⊎◌, inl, inr, nat_eq, arith}
 use Rattle.std.specs.Prelude.{slice_index_or, slice_set}
 use Rattle.std.specs.Map.{lookup}
 use Rattle.std.proofs.lemmas.Bool.{eq-eqb, eqb-true}
@@ -68,17 +68,19 @@ agree_push env bound cells l v a h = record {
   where
     held : (x : ℕ) (k : Local) → ((x ≡ length env) × (l ≡ k)) ⊎ (slice_get env x ≡ Some k)
         → (c : ℕ) × (lookup (nat_eq x) ((length env, length cells) ∷ bound) ≡ Some c) × Has k.current (slice_index_or (cells ++ v ∷ []) c value.Nil)
-    held x k (inl e) =
-        (length cells,
-        front (nat_eq x (length env)) (lookup (nat_eq x) bound) (length cells) (eq-eqb x (length env) e.0),
-        subst (λ (j : Local). Has j.current (slice_index_or (cells ++ v ∷ []) (length cells) value.Nil)) e.1
-        (subst (λ u. Has l.current u) (sym (get_or-append_seam cells v [] value.Nil)) h))
+    held x k (inl e) = (
+      length cells,
+      front (nat_eq x (length env)) (lookup (nat_eq x) bound) (length cells) (eq-eqb x (length env) e.0),
+      subst (λ (j : Local). Has j.current (slice_index_or (cells ++ v ∷ []) (length cells) value.Nil)) e.1
+          (subst (λ u. Has l.current u) (sym (get_or-append_seam cells v [] value.Nil)) h),
+    )
     held x k (inr e) =
         let old = a.holds x k e in
-        let less : x < length env = slice_get_within env x k e in
-        (old.0,
-        behind_front (nat_eq x (length env)) (lookup (nat_eq x) bound) (length cells) (λ q. let same : x ≡ length env = eqb-true x (length env) q in omega (arith, same, less)) ∙ old.1,
-        subst (λ u. Has k.current u) (sym (get_or_append_left cells (v ∷ []) value.Nil old.0 (a.inside x old.0 old.1))) old.2)
+        let less : x < length env = slice_get_within env x k e in (
+          old.0,
+          behind_front (nat_eq x (length env)) (lookup (nat_eq x) bound) (length cells) (λ q. let same : x ≡ length env = eqb-true x (length env) q in omega (arith, same, less)) ∙ old.1,
+          subst (λ u. Has k.current u) (sym (get_or_append_left cells (v ∷ []) value.Nil old.0 (a.inside x old.0 old.1))) old.2,
+        )
 
     within : (x c : ℕ) → ((nat_eq x (length env) ≡ true) × (length cells ≡ c)) ⊎ (lookup (nat_eq x) bound ≡ Some c) → c < length (cells ++ v ∷ [])
     within x c (inl e) = within_more cells v c (omega (arith, e.1))
@@ -101,13 +103,15 @@ agree_set env bound cells x c l v a at h = record {
   where
     held : (y : ℕ) (k : Local) → ((y ≡ x) × (l ≡ k)) ⊎ ((y ≡ x → ⊥) × (slice_get env y ≡ Some k))
         → (d : ℕ) × (lookup (nat_eq y) bound ≡ Some d) × Has k.current (slice_index_or (slice_set cells c v) d value.Nil)
-    held y k (inl e) =
-        (c,
-        subst (λ z. lookup (nat_eq z) bound ≡ Some c) (sym e.0) at,
-        subst (λ (j : Local). Has j.current (slice_index_or (slice_set cells c v) c value.Nil)) e.1
-        (subst (λ u. Has l.current u) (sym (get_or-set_same cells c v value.Nil (a.inside x c at))) h))
+    held y k (inl e) = (
+      c,
+      subst (λ z. lookup (nat_eq z) bound ≡ Some c) (sym e.0) at,
+      subst (λ (j : Local). Has j.current (slice_index_or (slice_set cells c v) c value.Nil)) e.1
+          (subst (λ u. Has l.current u) (sym (get_or-set_same cells c v value.Nil (a.inside x c at))) h),
+    )
     held y k (inr e) =
-        let old = a.holds y k e.1 in
-        (old.0,
-        old.1,
-        subst (λ u. Has k.current u) (sym (get_or-set_other cells c old.0 v value.Nil (λ q. e.0 (a.apart y x c (old.1 ∙ ap Some q) at)))) old.2)
+        let old = a.holds y k e.1 in (
+          old.0,
+          old.1,
+          subst (λ u. Has k.current u) (sym (get_or-set_other cells c old.0 v value.Nil (λ q. e.0 (a.apart y x c (old.1 ∙ ap Some q) at)))) old.2,
+        )

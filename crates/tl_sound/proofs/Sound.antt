@@ -1,5 +1,5 @@
 -- The laws.
-use Rattle.std.proofs.Common.{◌≡◌, refl, sym, subst, ap, ◌∙◌, ℕ, ◌-◌, zero, suc, List, [], ◌∷◌, map, Option, Some, None}
+use Rattle.std.proofs.Common.{◌≡◌, refl, sym, subst, ℕ, ◌-◌, zero, suc, List, [], ◌∷◌, Option, Some, None}
 use Rattle.std.specs.Prelude.{IfSome, IsSome, Contains}
 use Rattle.tl_base.specs.declared.place.ModuleKind.{ModuleKind}
 use Rattle.tl_base.specs.declared.place.ModuleKind.TheVariants.{Typed, Untyped}
@@ -7,22 +7,22 @@ use Rattle.tl_base.specs.declared.crossing.Crossing.{Crossing}
 use Rattle.lua_tree.specs.declared.scoped.Use.{Use}
 use Rattle.lua_tree.specs.Tree.{Block}
 use Rattle.tl_types.specs.Below.{Test}
-use Rattle.tl_rules.specs.Checked.{Checked, fine}
+use Rattle.tl_rules.specs.Checked.{fine}
 use Rattle.tl_rules.specs.Crossings.{block_marks, IsCrossingList}
 use Rattle.tl_rules.specs.Statements.{check_block, check_module}
 use Rattle.lua_values.specs.declared.value.Value.{Value}
 use Rattle.lua_meaning.specs.World.{KindError, World}
 use Rattle.lua_meaning.specs.Environment.{Names}
-use Rattle.lua_meaning.specs.Outcomes.{Act, Outcome, gives, raises, cut, Flow, give, turned, results_of, ◌>>=◌}
+use Rattle.lua_meaning.specs.Outcomes.{Act, Outcome, gives, raises, cut, give, results_of, ◌>>=◌}
 use Rattle.lua_meaning.specs.Trees.{exec_all}
 use Rattle.lua_meaning.specs.Calls.{limit, below_of, apply}
-use Rattle.lua_meaning.specs.Programs.{Module, meaning, start, run_main, run_with, result_of, outermost}
-use Rattle.tl_sound.specs.Laws.{IsMarked, HasMark, IsAfterOneOf, main_marks}
-use Rattle.tl_sound.proofs.Keeps.{Ends, Keep, then_keep, give_keep}
+use Rattle.lua_meaning.specs.Programs.{Module, meaning, start, run_with, result_of, outermost}
+use Rattle.tl_sound.specs.Laws.{IsMarked, HasMark, IsAfterOneOf}
+use Rattle.tl_sound.proofs.Keeps.{Ends, then_keep, give_keep}
 use Rattle.tl_sound.proofs.KeepsLevels.{below_keeps, main_keeps}
-use Rattle.tl_sound.proofs.Late.{Stands, Marked, AnyMark, marked_stable, held_any}
+use Rattle.tl_sound.proofs.Late.{Stands, Marked, AnyMark, marked_stable}
 use Rattle.tl_sound.proofs.Untyped.{Quiet, quiet_stable}
-use Rattle.tl_sound.proofs.Listed.{Names as Listed, all_listed}
+use Rattle.tl_sound.proofs.Listed.{all_listed}
 use Rattle.tl_sound.proofs.Runs.{Given, given_then, given_is, After, after_then, good}
 use Rattle.tl_sound.proofs.Locals.{agree_none}
 use Rattle.tl_sound.proofs.Forms.{StepsAll}
@@ -86,8 +86,8 @@ run_stands kind below consistent names b marked words input m (suc left) e = blo
 pub errors_stand : (below consistent : Test) (m m' : Module) (words : List (List ℕ)) (input : List ℕ) (n : ℕ) → IsMarked below consistent m m' → IfSome (meaning (m' ∷ []) words input n).error HasMark
 errors_stand below consistent m m' words input n h =
     let typed : check_module m'.names.uses below consistent m'.kind m.body ≡ fine m'.body =
-        subst (λ k. check_module m'.names.uses below consistent k m.body ≡ fine m'.body) (sym h.kind)
-        (subst (λ (ns : Names). check_module ns.uses below consistent m.kind m.body ≡ fine m'.body) (sym h.names) h.body) in
+    subst (λ k. check_module m'.names.uses below consistent k m.body ≡ fine m'.body) (sym h.kind)
+    (subst (λ (ns : Names). check_module ns.uses below consistent m.kind m.body ≡ fine m'.body) (sym h.names) h.body) in
     result_stands n _ (run_stands m'.kind below consistent m'.names m.body m'.body words input n n typed)
 
 named : (list : List Crossing) (o : Option KindError) → IfSome o HasMark → IfSome o (λ e. IfSome e.after (Contains list)) → IfSome o (IsAfterOneOf list)

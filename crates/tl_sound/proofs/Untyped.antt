@@ -1,5 +1,5 @@
 -- A run of an untyped module alone records no error: no place is one of a typed module.
-use Rattle.std.proofs.Common.{◌≡◌, refl, sym, subst, ℕ, zero, suc, List, [], ◌∷◌, None}
+use Rattle.std.proofs.Common.{◌≡◌, refl, sym, subst, ℕ, zero, suc, [], ◌∷◌, None}
 use Rattle.std.specs.Prelude.{slice_index_or}
 use Rattle.tl_base.specs.declared.place.Pos.{Pos}
 use Rattle.tl_base.specs.declared.place.ModuleKind.TheVariants.{Untyped}
