@@ -1,4 +1,7 @@
-use crate::{Local, Ty, crossing_lists_are_unique, declared_for, type_place, type_written};
+use crate::{
+    Local, Ty, crossing_lists_are_unique, declared_for, orders_are_decided, type_place,
+    type_written,
+};
 use lua_tree::TypeExpr;
 use std::alloc::Global;
 use tl_base::{Bytes, List, NoMemory, Pos};
@@ -54,4 +57,5 @@ fn locals_know_their_values(rt: HostRuntime) {
     assert!(rt; matches!(declared_for(alloc, &Ty::True), Ok(Ty::Union(_))));
     assert!(rt; matches!(declared_for(alloc, &Ty::IntLit(3)), Ok(Ty::Int)));
     crossing_lists_are_unique();
+    orders_are_decided();
 }
