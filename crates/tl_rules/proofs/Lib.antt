@@ -1,3 +1,4 @@
 pub mod Crossings
 pub mod Decided
+pub mod Marking
 mod Vectors

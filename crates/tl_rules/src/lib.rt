@@ -8,7 +8,7 @@ mod local;
 mod tests;
 
 pub use annotation::{type_place, type_written};
-pub use laws::{crossing_lists_are_unique, orders_are_decided};
+pub use laws::{crossing_lists_are_unique, orders_are_decided, typing_adds_marks_alone};
 pub use local::{Local, declared_for};
 use lua_tree::TypeExpr;
 use tl_base::{NoMemory, Pos};

@@ -1,6 +1,6 @@
 use crate::{
     Local, Ty, crossing_lists_are_unique, declared_for, orders_are_decided, type_place,
-    type_written,
+    type_written, typing_adds_marks_alone,
 };
 use lua_tree::TypeExpr;
 use std::alloc::Global;
@@ -58,4 +58,5 @@ fn locals_know_their_values(rt: HostRuntime) {
     assert!(rt; matches!(declared_for(alloc, &Ty::IntLit(3)), Ok(Ty::Int)));
     crossing_lists_are_unique();
     orders_are_decided();
+    typing_adds_marks_alone();
 }
