@@ -1,4 +1,5 @@
 pub mod Crossings
 pub mod Decided
+mod Gathered
 pub mod Marking
 mod Vectors

@@ -1,6 +1,6 @@
 -- Typing adds marks to a tree and changes nothing else of it.
 use Rattle.std.proofs.Common.{◌≡◌, refl, sym, ap, subst, ◌∙◌, ℕ, Bool, true, false, List, [], ◌∷◌, Option, Some, None}
-use Rattle.std.specs.List.{slice_get, list_all, list_any}
+use Rattle.std.specs.List.{slice_get}
 use Rattle.tl_base.specs.declared.place.Pos.{Pos}
 use Rattle.tl_base.specs.declared.place.ModuleKind.{ModuleKind}
 use Rattle.tl_base.specs.declared.place.ModuleKind.TheVariants.{Typed as TypedModule, Untyped}
@@ -15,14 +15,15 @@ use Rattle.lua_tree.specs.Tree.{Exp, Multi, Exps, Targets, Stat, Block, marked, 
 use Rattle.tl_types.specs.declared.types.Ty.{Ty}
 use Rattle.tl_types.specs.declared.types.Ty.TheVariants as ty
 use Rattle.tl_types.specs.Sizes.{is_within}
-use Rattle.tl_types.specs.Types.{members}
-use Rattle.tl_types.specs.Unions.{is_any, is_value, general_form}
+use Rattle.tl_types.specs.Unions.{general_form}
 use Rattle.tl_types.specs.Below.{Test}
 use Rattle.tl_rules.specs.declared.local.Local.{Local}
+use Rattle.tl_rules.specs.declared.operand.Fit.{Fit}
+use Rattle.tl_rules.specs.declared.operand.Fit.TheVariants as fit
 use Rattle.tl_rules.specs.Annotations.{annotation}
 use Rattle.tl_rules.specs.Checked.{Checked, fine, fault, then_check, where_ruled}
 use Rattle.tl_rules.specs.Locals.{Env, number_of, local_in}
-use Rattle.tl_rules.specs.Operands.{is_ruled, is_integer, operand_by, operand}
+use Rattle.tl_rules.specs.Operands.{is_ruled, integer_fit, operand_by, operand}
 use Rattle.tl_rules.specs.Expressions.{TypedExp, operation, named_by, check_exp}
 use Rattle.tl_rules.specs.Flow.{Flowed, flow_by, flow}
 use Rattle.tl_rules.specs.Statements.{TypedExps, TypedMulti, TypedStat, TypedBlock, Begun, one_value, one_local, one_target, alone, is_print, check_callee, target_local, check_value, check_arguments, check_call, check_run, begun, check_local, store_by, check_store, check_stat, check_block, check_module}
@@ -75,15 +76,15 @@ pushed e made es mades h hs = ap plain_exps (push_one made mades h.one) ∙ (ap 
 abbrev SameExp : Exp → TypedExp → Type 0
 SameExp e v = Same e v.tree
 
-operand_by_same : (any value all some : Bool) (e made : Exp) → Same e made → Given (Same e) (operand_by any value all some made)
-operand_by_same true value all some e made h = marked_same cross.Operand e made h
-operand_by_same false true all some e made h = tt
-operand_by_same false false true some e made h = h
-operand_by_same false false false true e made h = tt
-operand_by_same false false false false e made h = tt
+operand_by_same : (f : Fit) (e made : Exp) → Same e made → Given (Same e) (operand_by f made)
+operand_by_same fit.Unknown e made h = marked_same cross.Operand e made h
+operand_by_same fit.Opaque e made h = tt
+operand_by_same fit.All e made h = h
+operand_by_same fit.Some e made h = tt
+operand_by_same fit.No e made h = tt
 
 operand_same : (t : Ty) (e made : Exp) → Same e made → Given (Same e) (operand t made)
-operand_same t e made h = operand_by_same (is_any t) (is_value t) (list_all is_integer (members t)) (list_any is_integer (members t)) e made h
+operand_same t e made h = operand_by_same (integer_fit t) e made h
 
 operation_same : (p : Pos) (o : BinaryOperator) (a b : Exp) (v w : TypedExp) → Same a v.tree → Same b w.tree → Given (SameExp (tree.binary p o a b)) (operation p o v w)
 operation_same p o a b v w ha hb =

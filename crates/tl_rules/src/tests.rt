@@ -1,8 +1,8 @@
 use crate::{
-    Local, Ty, crossing_lists_are_unique, declared_for, orders_are_decided, type_place,
-    type_written, typing_adds_marks_alone,
+    Fit, Local, Ty, crossing_lists_are_unique, declared_for, integer_fit, is_ruled, operation_type,
+    orders_are_decided, type_place, type_written, typing_adds_marks_alone,
 };
-use lua_tree::TypeExpr;
+use lua_tree::{BinaryOperator, TypeExpr};
 use std::alloc::Global;
 use tl_base::{Bytes, List, NoMemory, Pos};
 
@@ -38,6 +38,21 @@ fn names_stand_for_types(rt: HostRuntime) {
     );
     assert!(rt; matches!(type_written(alloc, &TypeExpr::Int(PLACE, 3)), Ok(None)));
     assert!(rt; type_place(&TypeExpr::Int(PLACE, 3)) == PLACE);
+}
+
+#[test]
+fn types_fit_operands(rt: HostRuntime) {
+    let alloc = rt.alloc();
+    assert!(rt; integer_fit(&Ty::Any) == Fit::Unknown);
+    assert!(rt; integer_fit(&Ty::Value) == Fit::Opaque);
+    assert!(rt; integer_fit(&Ty::IntLit(3)) == Fit::All);
+    assert!(rt; integer_fit(&Ty::Union(List::new(alloc))) == Fit::All);
+    assert!(rt; integer_fit(&Ty::Nil) == Fit::No);
+    let members = List::from_vec(vec![in alloc; Ty::Nil, Ty::Int].unwrap(&rt));
+    assert!(rt; integer_fit(&Ty::Union(members)) == Fit::Some);
+    assert!(rt; is_ruled(BinaryOperator::Multiply) && !is_ruled(BinaryOperator::Divide));
+    assert!(rt; matches!(operation_type(&Ty::Int, &Ty::Any), Ty::Any));
+    assert!(rt; matches!(operation_type(&Ty::Int, &Ty::IntLit(1)), Ty::Int));
 }
 
 #[test]
