@@ -18,10 +18,12 @@ use Rattle.tl_types.specs.Unions.{is_any, is_value, general_form}
 use Rattle.tl_types.specs.Sizes.{is_within}
 use Rattle.tl_types.specs.Below.{Test}
 use Rattle.tl_rules.specs.declared.local.Local.{Local}
+use Rattle.tl_rules.specs.declared.operand.Fit.{Fit}
+use Rattle.tl_rules.specs.declared.operand.Fit.TheVariants as fit
 use Rattle.tl_rules.specs.Annotations.{annotation}
 use Rattle.tl_rules.specs.Checked.{Checked, fine, fault}
 use Rattle.tl_rules.specs.Locals.{Env, number_of, local_in, local_with, general_declared}
-use Rattle.tl_rules.specs.Operands.{is_ruled, is_integer, operand_by, operand}
+use Rattle.tl_rules.specs.Operands.{is_ruled, is_integer, fit_by, integer_fit, operand_by, operand}
 use Rattle.tl_rules.specs.Expressions.{TypedExp, operation, named_by, check_exp}
 use Rattle.tl_rules.specs.Flow.{Flowed, flow_by, flow}
 use Rattle.tl_rules.specs.Statements.{TypedExps, TypedMulti, TypedStat, TypedBlock, Begun, one_value, one_local, one_target, alone, is_print, number_at, check_callee, target_local, check_value, check_arguments, check_call, check_run, begun, check_local, store_by, check_store, check_stat, check_block}
@@ -35,6 +37,14 @@ use Rattle.tl_sound.proofs.Forms.{Fits, FitsAll, Steps, StepsAll, fits_nothing, 
 given_any : {A : Type 0} (r : Checked A) → Given (λ a. Unit {0}) r
 given_any (fine a) = tt
 given_any (fault c p) = tt
+
+-- where all members fit
+all_fit : (any value all some : Bool) → fit_by any value all some ≡ fit.All → all ≡ true
+all_fit true value all some e = let f : ⊥ = cc in absurd f
+all_fit false true all some e = let f : ⊥ = cc in absurd f
+all_fit false false true some e = refl
+all_fit false false false true e = let f : ⊥ = cc in absurd f
+all_fit false false false false e = let f : ⊥ = cc in absurd f
 
 module _ (uses : List Use) (low : Below) (lates : BelowKeeps Marked AnyMark low) (c : ℕ) where
   abbrev F : Env → (Value → Type 0) → Env → Exp → Type 0
@@ -53,17 +63,17 @@ module _ (uses : List Use) (low : Below) (lates : BelowKeeps Marked AnyMark low)
     size = h.size;
   }
 
-  operand_by_sound : (any value all some : Bool) (env env1 : Env) (t : Ty) (e : Exp) → (all ≡ true → F env IsInt env1 e) → F env (Has t) env1 e
-      → Given (λ l. F env IsInt env1 l) (operand_by any value all some e)
-  operand_by_sound true value all some env env1 t e k h = fits_marked uses low lates c env env1 (Has t) IsInt cross.Operand e h
-  operand_by_sound false true all some env env1 t e k h = tt
-  operand_by_sound false false true some env env1 t e k h = k refl
-  operand_by_sound false false false true env env1 t e k h = tt
-  operand_by_sound false false false false env env1 t e k h = tt
+  operand_by_sound : (f : Fit) (env env1 : Env) (t : Ty) (e : Exp) → (f ≡ fit.All → F env IsInt env1 e) → F env (Has t) env1 e → Given (λ l. F env IsInt env1 l) (operand_by f e)
+  operand_by_sound fit.Unknown env env1 t e k h = fits_marked uses low lates c env env1 (Has t) IsInt cross.Operand e h
+  operand_by_sound fit.Opaque env env1 t e k h = tt
+  operand_by_sound fit.All env env1 t e k h = k refl
+  operand_by_sound fit.Some env env1 t e k h = tt
+  operand_by_sound fit.No env env1 t e k h = tt
 
   operand_sound : (env env1 : Env) (t : Ty) (e : Exp) → F env (Has t) env1 e → Given (λ l. F env IsInt env1 l) (operand t e)
   operand_sound env env1 t e h =
-      operand_by_sound (is_any t) (is_value t) (list_all is_integer (members t)) (list_any is_integer (members t)) env env1 t e (λ all. fits_int env env1 t e all h) h
+      operand_by_sound (integer_fit t) env env1 t e
+      (λ all. fits_int env env1 t e (all_fit (is_any t) (is_value t) (list_all is_integer (members t)) (list_any is_integer (members t)) all) h) h
 
   operation_sound : (env : Env) (p : Pos) (o : BinaryOperator) (a b : TypedExp) → is_ruled o ≡ true → FitsExp env a → FitsExp a.env b → Given (FitsExp env) (operation p o a b)
   operation_sound env p o a b ruled ha hb =

@@ -10,3 +10,4 @@ mod Locals
 mod Forms
 mod Join
 pub mod Sound
+mod Alike

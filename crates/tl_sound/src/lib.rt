@@ -6,4 +6,6 @@ mod laws;
 #[cfg(test)]
 mod tests;
 
-pub use laws::{errors_follow_marks, errors_name_crossings, marks_are_listed};
+pub use laws::{
+    errors_follow_marks, errors_name_crossings, marks_are_listed, typed_modules_run_alike,
+};

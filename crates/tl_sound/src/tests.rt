@@ -1,8 +1,11 @@
-use crate::{errors_follow_marks, errors_name_crossings, marks_are_listed};
+use crate::{
+    errors_follow_marks, errors_name_crossings, marks_are_listed, typed_modules_run_alike,
+};
 
 #[test]
 fn laws_compute_nothing() {
     errors_follow_marks();
     marks_are_listed();
     errors_name_crossings();
+    typed_modules_run_alike();
 }
