@@ -1,5 +1,5 @@
 -- The functions at work: the one that runs, and those that wait for the results of their calls.
-use Rattle.std.specs.Prelude.{◌≡◌, ℕ, ◌+◌, Bool, true, false, List, [], ◌∷◌, ◌++◌, slice_set}
+use Rattle.std.specs.Prelude.{◌≡◌, ℕ, ◌+◌, Bool, true, false, List, [], ◌∷◌, ◌++◌, map, reverse, slice_set}
 use Rattle.lua_values.specs.declared.value.Value.{Value}
 use Rattle.lua_code.specs.declared.frames.Slot.{Slot}
 use Rattle.lua_code.specs.declared.frames.Item.{Item}
@@ -12,8 +12,7 @@ pub record Activity : Type 0 where
 
 -- the levels of functions that wait, of which the innermost is the last
 abbrev pub levels_of : List Frame → List Level
-levels_of [] = []
-levels_of (f ∷ fs) = levels_of fs ++ caller f ∷ []
+levels_of fs = map (λ f. caller f) (reverse fs)
 
 -- a function that begins, without its slots
 abbrev pub fresh : ℕ → List ℕ → List Value → Frame

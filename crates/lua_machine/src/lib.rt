@@ -3,5 +3,8 @@
 
 mod activation;
 mod closures;
+mod frames;
 mod operators;
+mod rows;
+mod state;
 mod store;
