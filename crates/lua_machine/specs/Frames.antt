@@ -1,5 +1,5 @@
 -- The functions at work: the one that runs, and those that wait for the results of their calls.
-use Rattle.std.specs.Prelude.{◌≡◌, ℕ, ◌+◌, Bool, true, false, List, [], ◌∷◌, ◌++◌, map, reverse, slice_set}
+use Rattle.std.specs.Prelude.{◌≡◌, ℕ, ◌+◌, Bool, true, false, List, [], ◌∷◌, ◌++◌, map, reverse, slice_set, Option, Some, None}
 use Rattle.lua_values.specs.declared.value.Value.{Value}
 use Rattle.lua_code.specs.declared.frames.Slot.{Slot}
 use Rattle.lua_code.specs.declared.frames.Item.{Item}
@@ -41,3 +41,11 @@ entered f a = record { frame = f; levels = caller a.frame ∷ a.levels }
 abbrev pub Leaves : Bool → Activity → Activity → Type 0
 Leaves true old new = old.levels ≡ caller new.frame ∷ new.levels
 Leaves false old new = old.levels ≡ []
+
+-- so many values were on the stack, and these are they; or something else was there
+abbrev pub PopsMany : Bool → Option (List Value × List Item) → List Value → Activity → Activity → Type 0
+PopsMany true taken vs old new = (taken ≡ Some (vs, new.frame.stack)) × (new ≡ record old { frame = record old.frame { stack = new.frame.stack } })
+PopsMany false taken vs old new = taken ≡ None
+
+abbrev pub with_stack : List Item → Activity → Activity
+with_stack items a = record a { frame = record a.frame { stack = items } }

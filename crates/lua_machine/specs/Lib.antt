@@ -1,4 +1,6 @@
 pub mod Answers
 pub mod Frames
 pub mod Flows
+pub mod Lists
+pub mod Loops
 pub mod World

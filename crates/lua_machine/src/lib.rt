@@ -4,7 +4,10 @@
 mod activation;
 mod closures;
 mod frames;
+mod jumps;
+mod lists;
 mod operators;
 mod rows;
 mod state;
 mod store;
+mod sums;
