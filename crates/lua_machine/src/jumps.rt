@@ -137,7 +137,7 @@ pub enum Bounds {
 
 /// The integers in three slots from one on.
 #[inline(always)]
-fn bounds(at: u64, state: &State) -> Result<Bounds, NoMemory>
+fn read_bounds(at: u64, state: &State) -> Result<Bounds, NoMemory>
     ensures { IfOk result (λ bounds. AreBounds bounds at state.now.frames.frame) }
 {
     let second = at.checked_add(1).ok_or(NoMemory)?;
@@ -168,7 +168,7 @@ fn bounds(at: u64, state: &State) -> Result<Bounds, NoMemory>
 pub fn for_prep(place: Pos, at: u64, to: u64, state: &mut State) -> Result<Flow, NoMemory>
     ensures { IfOk result (λ flow. Obeys (loop_slots at (λ n limit step. begin_loop to n limit step)) place state.old state.new flow) }
 {
-    match bounds(at, state)? {
+    match read_bounds(at, state)? {
         Bounds::Integers(value, limit, step) => {
             if step == 0 {
                 let what = Bytes::from_slice(state.alloc, b"'for' step is zero")?;
@@ -191,7 +191,7 @@ pub fn for_prep(place: Pos, at: u64, to: u64, state: &mut State) -> Result<Flow,
 pub fn for_step(place: Pos, at: u64, to: u64, state: &mut State) -> Result<Flow, NoMemory>
     ensures { IfOk result (λ flow. Obeys (loop_slots at (λ n limit step. step_loop at to n limit step)) place state.old state.new flow) }
 {
-    match bounds(at, state)? {
+    match read_bounds(at, state)? {
         Bounds::Integers(value, limit, step) => {
             match next_value(step, limit, value) {
                 Some(next) => {
@@ -209,7 +209,7 @@ pub fn for_step(place: Pos, at: u64, to: u64, state: &mut State) -> Result<Flow,
 
 /// The value on the stack has to be an integer.
 #[inline(always)]
-pub fn bound(place: Pos, state: &mut State) -> Result<Flow, NoMemory>
+pub fn wanted_integer(place: Pos, state: &mut State) -> Result<Flow, NoMemory>
     ensures { IfOk result (λ flow. Obeys (pop_value (λ v. meant_bound v)) place state.old state.new flow) }
 {
     let Some(Item::One(value)) = state.frames.pop() else {
