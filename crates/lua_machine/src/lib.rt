@@ -1,6 +1,7 @@
 //! A machine that runs stack code step by step, and tells what comes of it.
 #![tactic(auto)]
 
+mod act;
 mod activation;
 mod closures;
 mod frames;
