@@ -1,3 +1,4 @@
+pub mod Begin
 pub mod Levels
 pub mod Operands
 pub mod Places

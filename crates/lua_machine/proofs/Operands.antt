@@ -84,7 +84,7 @@ pub all_nil : (k : ℕ) → adjust k [] ≡ replicate k value.Nil
 all_nil zero = refl
 all_nil (suc k) = ap (λ vs. value.Nil ∷ vs) (all_nil k)
 
-map_append : {A B : Type 0} (f : A → B) (xs ys : List A) → map f (xs ++ ys) ≡ map f xs ++ map f ys
+pub map_append : {A B : Type 0} (f : A → B) (xs ys : List A) → map f (xs ++ ys) ≡ map f xs ++ map f ys
 map_append f [] ys = refl
 map_append f (x ∷ xs) ys = ap (λ zs. f x ∷ zs) (map_append f xs ys)
 
@@ -125,19 +125,23 @@ pub first_is : (vs : List Value) → slice_index_or vs 0 value.Nil ≡ first_of 
 first_is [] = refl
 first_is (v ∷ vs) = refl
 
+-- the next value of a list that is cut or filled
+pub adjust_more : (count at : ℕ) (vs : List Value) (v : Value) → at < count → v ≡ slice_index_or vs at value.Nil
+    → adjust (count - at) (drop at vs) ≡ v ∷ adjust (count - (at + 1)) (drop (at + 1) vs)
+adjust_more count at vs v less is_value =
+    let e : count - at ≡ suc (count - (at + 1)) = omega arith in
+    let up : at + 1 ≡ suc at = omega arith in
+    ap (λ k. adjust k (drop at vs)) e ∙ (adjust_next (count - (at + 1)) at vs
+    ∙ (ap (λ u. u ∷ adjust (count - (at + 1)) (drop (suc at) vs)) (sym is_value) ∙ ap (λ k. v ∷ adjust (count - (at + 1)) (drop k vs)) (sym up)))
+
 -- one value more of a list is on the stack
 pub spread_step : (count counter : ℕ) (vs : List Value) (v : Value) (a b g : Activity)
     → counter < count → v ≡ slice_index_or vs counter value.Nil → b ≡ with_item (item.One v) a
     → with_stack (spread (adjust (count - counter) (drop counter vs)) a.frame.stack) a ≡ g
     → with_stack (spread (adjust (count - (counter + 1)) (drop (counter + 1) vs)) b.frame.stack) b ≡ g
 spread_step count counter vs v a b g less is_value is_more h =
-    let e : count - counter ≡ suc (count - (counter + 1)) = omega arith in
-    let up : counter + 1 ≡ suc counter = omega arith in
-    let next : adjust (count - counter) (drop counter vs) ≡ v ∷ adjust (count - (counter + 1)) (drop (counter + 1) vs) =
-        ap (λ k. adjust k (drop counter vs)) e ∙ (adjust_next (count - (counter + 1)) counter vs
-        ∙ (ap (λ u. u ∷ adjust (count - (counter + 1)) (drop (suc counter) vs)) (sym is_value) ∙ ap (λ k. v ∷ adjust (count - (counter + 1)) (drop k vs)) (sym up))) in
     ap (λ (x : Activity). with_stack (spread (adjust (count - (counter + 1)) (drop (counter + 1) vs)) x.frame.stack) x) is_more
-    ∙ (ap (λ us. with_stack (spread us a.frame.stack) a) (sym next) ∙ h)
+    ∙ (ap (λ us. with_stack (spread us a.frame.stack) a) (sym (adjust_more count counter vs v less is_value)) ∙ h)
 
 module _ (number : ℕ) (o : Option Proto) (proto : Proto) (p : Pos) (f : Frame) (levels : List Level) (w : World) (ks : List CodeClosure) where
   pub closes_not : Some proto ≡ o → None ≡ cells_here f proto.captures → close number o p f levels w ks ≡ stuck

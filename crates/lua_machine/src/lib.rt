@@ -3,6 +3,7 @@
 
 mod act;
 mod activation;
+mod calls;
 mod closures;
 mod frames;
 mod jumps;
