@@ -4,4 +4,6 @@ pub mod Calls
 pub mod Flows
 pub mod Lists
 pub mod Loops
+pub mod Pacing
+pub mod Runs
 pub mod World

@@ -44,6 +44,15 @@ impl Store {
         }
     }
 
+    /// The outside is none of a store's affairs: nothing is written in it, and nothing is to be read.
+    #[inline(always)]
+    pub fn is_bare(&self)
+        ensures output { self.now.output ≡ [] }
+        ensures input { self.now.input ≡ [] }
+    {
+        let _ = &self.cells;
+    }
+
     /// How many turns are left.
     #[inline(always)]
     pub fn turns(&self) -> u64
