@@ -2,3 +2,5 @@ pub mod Begin
 pub mod Levels
 pub mod Operands
 pub mod Places
+pub mod Traces
+pub mod Walks

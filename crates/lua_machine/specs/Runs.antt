@@ -91,3 +91,16 @@ noted limit steps s = cond (nat_lt (length steps) limit) (steps ++ s ∷ []) ste
 abbrev pub noted_all : ℕ → List TraceStep → List (ℕ × ℕ) → List TraceStep
 noted_all limit steps [] = steps
 noted_all limit steps (s ∷ ss) = noted_all limit (noted limit steps (step_of s)) ss
+
+-- Some steps lead from here to what a pace comes to, and the instructions begun are noted behind others.
+pub record RunsTo (code : List Proto) (here : Next) (p : Pace) (new : State) (limit : ℕ) (before noted_now : List TraceStep) : Type 0 where
+  pub steps : ℕ
+  pub comes : after code steps here ≡ next_of_pace p new
+  pub noted : noted_now ≡ noted_all limit before (begun_from code steps here)
+  pub quiet : IsOutput p → (k : ℕ) × (steps ≡ k + 2) × (output_in (after code k here) ≡ [])
+
+-- the same while the function that runs goes on
+pub record RunsOn (code : List Proto) (here there : Next) (limit : ℕ) (before noted_now : List TraceStep) : Type 0 where
+  pub steps : ℕ
+  pub comes : after code steps here ≡ there
+  pub noted : noted_now ≡ noted_all limit before (begun_from code steps here)

@@ -11,6 +11,7 @@ mod lists;
 mod operators;
 mod pacing;
 mod rows;
+mod running;
 mod state;
 mod store;
 mod sums;
