@@ -4,6 +4,7 @@ pub mod Calls
 pub mod Flows
 pub mod Lists
 pub mod Loops
+pub mod Machines
 pub mod Pacing
 pub mod Runs
 pub mod World

@@ -64,7 +64,7 @@ fn further(
 }
 
 /// A function that begins, with its arguments.
-fn activation_of(
+pub fn activation_of(
     alloc: Global,
     number: u64,
     proto: &Proto,

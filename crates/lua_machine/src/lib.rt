@@ -5,6 +5,7 @@ mod act;
 mod activation;
 mod calls;
 mod closures;
+mod events;
 mod frames;
 mod jumps;
 mod lists;
