@@ -127,3 +127,8 @@ abbrev pub Settled : Status → Type 0
 Settled status.Fresh = ⊥
 Settled status.Stuck = ⊥
 Settled s = Unit {0}
+
+-- what stays where an event could not be told
+pub record Keeps (old new : Sight) : Type 0 where
+  pub code : new.code ≡ old.code
+  pub trace : new.trace ≡ old.trace

@@ -9,6 +9,7 @@ mod events;
 mod frames;
 mod jumps;
 mod lists;
+mod machine;
 mod operators;
 mod pacing;
 mod rows;
@@ -17,3 +18,7 @@ mod state;
 mod store;
 mod sums;
 mod tracing;
+
+pub use events::Event;
+pub use machine::Machine;
+pub use tracing::TraceStep;
