@@ -49,7 +49,7 @@ pub frame_filled : (number : ℕ) (proto : Proto) (cells : List ℕ) (vs rest : 
 frame_filled number proto cells vs rest a b d k is_rest is_a is_b is_k is_d =
     let args = adjust proto.params vs in
     let all : map (λ v. slot.Held v) args ++ map (λ v. slot.Held v) (adjust k []) ≡ map (λ v. slot.Held v) (args ++ replicate (proto.slots - proto.params) value.Nil) =
-        sym (map_append (λ v. slot.Held v) args (adjust k []) ) ∙ ap (λ us. map (λ v. slot.Held v) (args ++ us)) (all_nil k ∙ ap (λ n. replicate n value.Nil) is_k) in
+    sym (map_append (λ v. slot.Held v) args (adjust k [])) ∙ ap (λ us. map (λ v. slot.Held v) (args ++ us)) (all_nil k ∙ ap (λ n. replicate n value.Nil) is_k) in
     is_d ∙ (ap (λ (x : Frame). record x { slots = x.slots ++ map (λ v. slot.Held v) (adjust k []) }) is_b
     ∙ (ap (λ (x : Frame). record x { slots = (x.slots ++ map (λ v. slot.Held v) args) ++ map (λ v. slot.Held v) (adjust k []) }) is_a
     ∙ (ap (λ r. record (fresh number cells r) { slots = map (λ v. slot.Held v) args ++ map (λ v. slot.Held v) (adjust k []) }) is_rest

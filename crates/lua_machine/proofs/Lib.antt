@@ -1,4 +1,5 @@
 pub mod Begin
+pub mod Telling
 pub mod Levels
 pub mod Operands
 pub mod Places

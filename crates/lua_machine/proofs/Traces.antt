@@ -15,7 +15,7 @@ noted_on limit steps [] ys = refl
 noted_on limit steps (x ∷ xs) ys = noted_on limit (noted limit steps (step_of x)) xs ys
 
 module _ (code : List Proto) (here there : Next) (limit l : ℕ) (before now next : List TraceStep) (so_far : RunsOn code here there limit before now) (same : l ≡ limit)
-         (p : Pace) (new : State) (seen : List (ℕ × ℕ)) (paces : Paces code there p new seen) (traced : next ≡ noted_all l now seen) where
+    (p : Pace) (new : State) (seen : List (ℕ × ℕ)) (paces : Paces code there p new seen) (traced : next ≡ noted_all l now seen) where
   reached : after code (so_far.steps + paces.steps) here ≡ next_of_pace p new
   reached = after_on code so_far.steps paces.steps here ∙ (ap (after code paces.steps) so_far.comes ∙ paces.walk.comes)
 
@@ -31,7 +31,7 @@ module _ (code : List Proto) (here there : Next) (limit l : ℕ) (before now nex
     comes = reached;
     noted = noted_then;
     quiet = λ o. let k = paces.quiet o in let e = k.1 in
-      (so_far.steps + k.0, omega (arith, e), ap output_in (after_on code so_far.steps k.0 here ∙ ap (after code k.0) so_far.comes) ∙ k.2);
+        (so_far.steps + k.0, omega (arith, e), ap output_in (after_on code so_far.steps k.0 here ∙ ap (after code k.0) so_far.comes) ∙ k.2);
   }
 
   pub run_on : p ≡ pace.On → RunsOn code here (at_work new) limit before next

@@ -84,7 +84,7 @@ module _ (code : List Proto) where
   -- ---- calls
 
   module _ (p : Pos) (f : Value) (vs : List Value) (levels : List Level) (w : World) (ks : List CodeClosure) (called : Called) (new : State)
-           (begins : step code (calling p f vs levels w ks) ≡ next_of_call called new) where
+      (begins : step code (calling p f vs levels w ks) ≡ next_of_call called new) where
     pub call_raises : (v : Value) → called ≡ come.Raise v → Paces code (go (calling p f vs levels w ks)) (pace.Raised v) new []
     call_raises v is = record {
       steps = suc (unwinding (levels_with_caller new));
@@ -107,12 +107,12 @@ module _ (code : List Proto) where
       call_writes text is bare =
           let there = next_of_pace (pace.Output text) (record new { frames = frames }) in
           let written = write text new.store in record {
-        steps = 2;
-        walk = walk_step (calling p f vs levels w ks) 1 (next_of_call (come.Gives (Some text)) new) there [] (begins ∙ ap (λ c. next_of_call c new) is)
-            (walk_step (giving [] (levels_with_caller new) written new.closures) zero there there []
-            (ap (λ (a : Activity). go (running a.frame a.levels written new.closures)) (sym pushed)) (walk_none there));
-        quiet = λ h. (zero, refl, bare);
-      }
+            steps = 2;
+            walk = walk_step (calling p f vs levels w ks) 1 (next_of_call (come.Gives (Some text)) new) there [] (begins ∙ ap (λ c. next_of_call c new) is)
+                (walk_step (giving [] (levels_with_caller new) written new.closures) zero there there []
+                (ap (λ (a : Activity). go (running a.frame a.levels written new.closures)) (sym pushed)) (walk_none there));
+            quiet = λ h. (zero, refl, bare);
+          }
 
   -- ---- one instruction
 

@@ -3,11 +3,8 @@ ghost use Rattle.lua_code.specs.Instructions.{act as meant};
 ghost use Rattle.lua_meaning.specs.Trees.{library_value as meant_library};
 ghost use Rattle.lua_machine.specs.Flows.{Obeys};
 
-use crate::jumps;
-use crate::lists;
-use crate::rows;
 use crate::state::{Flow, State};
-use crate::sums;
+use crate::{jumps, lists, rows, sums};
 use lua_code::{Instr, Item, Proto};
 use lua_tree::{BinaryOperator, LibName, UnaryOperator};
 use lua_values::{Text, Value};

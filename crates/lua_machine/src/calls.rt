@@ -47,12 +47,7 @@ fn fill(count: u64, values: &[Value], activation: &mut Activation) -> Result<(),
 }
 
 /// The further arguments, where the function takes them.
-fn further(
-    alloc: Global,
-    vararg: bool,
-    count: u64,
-    values: &[Value],
-) -> Result<Values, NoMemory>
+fn further(alloc: Global, vararg: bool, count: u64, values: &[Value]) -> Result<Values, NoMemory>
     ensures { IfOk result (λ rest. rest ≡ meant_further vararg count values.now) }
 {
     let start = count as usize;
@@ -76,7 +71,11 @@ pub fn activation_of(
     let rest = further(alloc, proto.vararg, proto.params, values)?;
     let mut activation = Activation::new(alloc, number, cells, rest);
     fill(proto.params, values, &mut activation)?;
-    fill(proto.slots.saturating_sub(proto.params), &[], &mut activation)?;
+    fill(
+        proto.slots.saturating_sub(proto.params),
+        &[],
+        &mut activation,
+    )?;
     Ok(activation)
 }
 
@@ -165,7 +164,9 @@ fn has_room(state: &State) -> bool
 fn overflow(place: Pos, state: &State) -> Result<Called, NoMemory>
     ensures { IfOk result (λ called. meant_overflow place (levels_with_caller state.now) state.now.store state.now.closures ≡ next_of_call called state.now) }
 {
-    let text = state.store.error_text(state.alloc, place, b"stack overflow")?;
+    let text = state
+        .store
+        .error_text(state.alloc, place, b"stack overflow")?;
     Ok(Called::Raise(Value::Str(Text::new(state.alloc, text.as_slice())?)))
 }
 

@@ -80,12 +80,7 @@ fn turned_round(
 
 /// Takes so many values from the stack, the top last, and others behind them, and puts their list there.
 #[inline(always)]
-fn pack_with(
-    place: Pos,
-    count: u64,
-    above: &[Value],
-    state: &mut State,
-) -> Result<Flow, NoMemory>
+fn pack_with(place: Pos, count: u64, above: &[Value], state: &mut State) -> Result<Flow, NoMemory>
     ensures { IfOk result (λ flow. Obeys (meant_pop_values count above.now (λ vs. meant_push (item.Many vs))) place state.old state.new flow) }
 {
     let mut popped = SmallVec::new(state.alloc);
@@ -229,11 +224,7 @@ fn cell_of(frames: &Frames, capture: Capture) -> Option<u64>
 }
 
 /// The cells that a closure captures here, if each is there.
-fn cells_of(
-    alloc: Global,
-    frames: &Frames,
-    captures: &[Capture],
-) -> Result<Option<Cells>, NoMemory>
+fn cells_of(alloc: Global, frames: &Frames, captures: &[Capture]) -> Result<Option<Cells>, NoMemory>
     ensures { IfOk result (λ cells. cells ≡ cells_here frames.now.frame captures.now) }
 {
     let mut cells = Vec::new(alloc);

@@ -4,7 +4,9 @@ ghost use Rattle.lua_meaning.specs.Operators.{kind_name, is_true, compute, integ
 ghost use Rattle.lua_machine.specs.Answers.{answer_of, first_wrong};
 
 use lua_tree::{BinaryOperator, UnaryOperator};
-use lua_values::{Text, Value, add, band, bnot, bor, bxor, idiv, integer_text, modulo, mul, neg, shl, shr, sub};
+use lua_values::{
+    Text, Value, add, band, bnot, bor, bxor, idiv, integer_text, modulo, mul, neg, shl, shr, sub,
+};
 use std::alloc::Global;
 use tl_base::{Bytes, NoMemory};
 
@@ -75,12 +77,7 @@ fn quotient(alloc: Global, what: &str, number: Option<i64>) -> Result<Answered, 
 
 /// An operator on two integers.
 #[inline(always)]
-fn computed(
-    alloc: Global,
-    operator: BinaryOperator,
-    m: i64,
-    n: i64,
-) -> Result<Answered, NoMemory>
+fn computed(alloc: Global, operator: BinaryOperator, m: i64, n: i64) -> Result<Answered, NoMemory>
     ensures { IfOk result (λ a. answer_of a ≡ compute operator m n) }
 {
     let number = match operator {

@@ -8,11 +8,7 @@ use lua_code::Proto;
 use tl_base::NoMemory;
 
 /// Does one instruction after the other until there is something to tell.
-pub fn run(
-    functions: &[Proto],
-    state: &mut State,
-    tracing: &mut Tracing,
-) -> Result<Pace, NoMemory>
+pub fn run(functions: &[Proto], state: &mut State, tracing: &mut Tracing) -> Result<Pace, NoMemory>
     ensures { IfOk result (λ pace. RunsTo functions.now (at_work state.old) pace state.new tracing.old.limit tracing.old.steps.items tracing.new.steps.items) }
 {
     for _ in 0..u64::MAX {

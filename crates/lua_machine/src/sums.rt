@@ -14,11 +14,7 @@ use tl_base::{NoMemory, Pos};
 
 /// Arithmetic on the two values on the stack.
 #[inline(always)]
-pub fn arithmetic(
-    place: Pos,
-    operator: BinaryOperator,
-    state: &mut State,
-) -> Result<Flow, NoMemory>
+pub fn arithmetic(place: Pos, operator: BinaryOperator, state: &mut State) -> Result<Flow, NoMemory>
     ensures { IfOk result (λ flow. Obeys (pop_value (λ y. pop_value (λ x. answered (meant_arithmetic operator x y)))) place state.old state.new flow) }
 {
     let Some(Item::One(y)) = state.frames.pop() else {
@@ -33,11 +29,7 @@ pub fn arithmetic(
 
 /// A bitwise operation on the two values on the stack.
 #[inline(always)]
-pub fn bitwise(
-    place: Pos,
-    operator: BinaryOperator,
-    state: &mut State,
-) -> Result<Flow, NoMemory>
+pub fn bitwise(place: Pos, operator: BinaryOperator, state: &mut State) -> Result<Flow, NoMemory>
     ensures { IfOk result (λ flow. Obeys (pop_value (λ y. pop_value (λ x. answered (meant_bitwise operator x y)))) place state.old state.new flow) }
 {
     let Some(Item::One(y)) = state.frames.pop() else {
