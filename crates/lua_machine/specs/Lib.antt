@@ -5,6 +5,7 @@ pub mod Flows
 pub mod Lists
 pub mod Loops
 pub mod Machines
+pub mod Outside
 pub mod Pacing
 pub mod Runs
 pub mod World

@@ -8,6 +8,7 @@ mod closures;
 mod events;
 mod frames;
 mod jumps;
+mod laws;
 mod lists;
 mod machine;
 mod operators;
@@ -22,5 +23,6 @@ mod tests;
 mod tracing;
 
 pub use events::Event;
+pub use laws::runs_keep_the_outside;
 pub use machine::Machine;
 pub use tracing::TraceStep;

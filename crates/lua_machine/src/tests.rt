@@ -12,7 +12,7 @@ const PLACE: Pos = Pos {
     column: 5,
 };
 
-fn function(alloc: Global, slots: u64, code: Vec<Instr>) -> Result<Proto, NoMemory> {
+fn function(alloc: Global, slots: u64, code: List<Instr>) -> Result<Proto, NoMemory> {
     let mut places = List::new(alloc);
     for _ in code.as_slice() {
         places.push(PLACE)?;
@@ -22,15 +22,15 @@ fn function(alloc: Global, slots: u64, code: Vec<Instr>) -> Result<Proto, NoMemo
         vararg: false,
         slots,
         captures: List::new(alloc),
-        code: List::from_vec(code),
+        code,
         places,
     })
 }
 
 fn machine_of(
     alloc: Global,
-    main: Vec<Instr>,
-    inner: Vec<Instr>,
+    main: List<Instr>,
+    inner: List<Instr>,
     turns: u64,
 ) -> Result<Machine, NoMemory> {
     let mut functions = List::new(alloc);
@@ -41,6 +41,70 @@ fn machine_of(
     let mut kinds = List::new(alloc);
     kinds.push(ModuleKind::Typed)?;
     Machine::new(alloc, Code { functions }, files, kinds, turns, 20)
+}
+
+/// Ends at once.
+fn ends(alloc: Global) -> Result<List<Instr>, NoMemory> {
+    let mut code = List::new(alloc);
+    code.push(Instr::Pack(0))?;
+    code.push(Instr::Return)?;
+    Ok(code)
+}
+
+/// Prints a sum and a truth.
+fn prints(alloc: Global) -> Result<List<Instr>, NoMemory> {
+    let mut code = List::new(alloc);
+    code.push(Instr::Lib(LibName::Print))?;
+    code.push(Instr::Int(6))?;
+    code.push(Instr::Int(1))?;
+    code.push(Instr::Add)?;
+    code.push(Instr::True)?;
+    code.push(Instr::Pack(2))?;
+    code.push(Instr::Call)?;
+    code.push(Instr::Return)?;
+    Ok(code)
+}
+
+/// Passes two crossings, and calls nil.
+fn fails(alloc: Global) -> Result<List<Instr>, NoMemory> {
+    let mut code = List::new(alloc);
+    code.push(Instr::Mark(CrossKind::Operand, 2, 3))?;
+    code.push(Instr::Mark(CrossKind::Place, 4, 5))?;
+    code.push(Instr::Nil)?;
+    code.push(Instr::Pack(0))?;
+    code.push(Instr::Call)?;
+    Ok(code)
+}
+
+/// A loop without an end.
+fn turns_round(alloc: Global) -> Result<List<Instr>, NoMemory> {
+    let mut code = List::new(alloc);
+    code.push(Instr::Jump(2))?;
+    code.push(Instr::Pop)?;
+    code.push(Instr::Turn)?;
+    code.push(Instr::True)?;
+    code.push(Instr::JumpIf(2))?;
+    Ok(code)
+}
+
+/// Calls the other function.
+fn calls_itself(alloc: Global) -> Result<List<Instr>, NoMemory> {
+    let mut code = List::new(alloc);
+    code.push(Instr::Closure(1))?;
+    code.push(Instr::Pack(0))?;
+    code.push(Instr::Call)?;
+    code.push(Instr::Return)?;
+    Ok(code)
+}
+
+/// Calls itself.
+fn is_called(alloc: Global) -> Result<List<Instr>, NoMemory> {
+    let mut code = List::new(alloc);
+    code.push(Instr::Closure(1))?;
+    code.push(Instr::Pack(0))?;
+    code.push(Instr::Call)?;
+    code.push(Instr::Return)?;
+    Ok(code)
 }
 
 /// An event as a line.
@@ -57,8 +121,8 @@ fn shown(alloc: Global, event: &Event) -> Result<Bytes, NoMemory> {
 #[test]
 fn a_program_ends(rt: HostRuntime) -> Result<(), Fail> {
     let alloc = rt.alloc();
-    let main = vec![in alloc; Instr::Pack(0), Instr::Return]?;
-    let mut machine = machine_of(alloc, main, Vec::new(alloc), 1)?;
+    let main = ends(alloc)?;
+    let mut machine = machine_of(alloc, main, List::new(alloc), 1)?;
     assert_eq!(rt; machine.turns_left(), 1);
     assert_eq!(rt;
         shown(alloc, &machine.advance()?)?.as_slice(),
@@ -76,8 +140,8 @@ fn a_program_ends(rt: HostRuntime) -> Result<(), Fail> {
 #[test]
 fn a_program_needs_a_turn(rt: HostRuntime) -> Result<(), Fail> {
     let alloc = rt.alloc();
-    let main = vec![in alloc; Instr::Pack(0), Instr::Return]?;
-    let mut machine = machine_of(alloc, main, Vec::new(alloc), 0)?;
+    let main = ends(alloc)?;
+    let mut machine = machine_of(alloc, main, List::new(alloc), 0)?;
     assert_eq!(rt;
         shown(alloc, &machine.advance()?)?.as_slice(),
         b"spent".as_slice()
@@ -92,17 +156,8 @@ fn a_program_needs_a_turn(rt: HostRuntime) -> Result<(), Fail> {
 #[test]
 fn texts_are_told_before_the_end(rt: HostRuntime) -> Result<(), Fail> {
     let alloc = rt.alloc();
-    let main = vec![in alloc;
-        Instr::Lib(LibName::Print),
-        Instr::Int(6),
-        Instr::Int(1),
-        Instr::Add,
-        Instr::True,
-        Instr::Pack(2),
-        Instr::Call,
-        Instr::Return,
-    ]?;
-    let mut machine = machine_of(alloc, main, Vec::new(alloc), 1)?;
+    let main = prints(alloc)?;
+    let mut machine = machine_of(alloc, main, List::new(alloc), 1)?;
     assert_eq!(rt;
         shown(alloc, &machine.advance()?)?.as_slice(),
         b"7\ttrue\n".as_slice()
@@ -117,14 +172,8 @@ fn texts_are_told_before_the_end(rt: HostRuntime) -> Result<(), Fail> {
 #[test]
 fn errors_of_kinds_are_recorded_with_the_first_crossing(rt: HostRuntime) -> Result<(), Fail> {
     let alloc = rt.alloc();
-    let main = vec![in alloc;
-        Instr::Mark(CrossKind::Operand, 2, 3),
-        Instr::Mark(CrossKind::Place, 4, 5),
-        Instr::Nil,
-        Instr::Pack(0),
-        Instr::Call,
-    ]?;
-    let mut machine = machine_of(alloc, main, Vec::new(alloc), 1)?;
+    let main = fails(alloc)?;
+    let mut machine = machine_of(alloc, main, List::new(alloc), 1)?;
     let text = b"main.tl:1:5: call of a nil".as_slice();
     assert_eq!(rt; shown(alloc, &machine.advance()?)?.as_slice(), text);
     assert_eq!(rt; shown(alloc, &machine.advance()?)?.as_slice(), text);
@@ -145,14 +194,8 @@ fn errors_of_kinds_are_recorded_with_the_first_crossing(rt: HostRuntime) -> Resu
 #[test]
 fn the_first_steps_are_traced(rt: HostRuntime) -> Result<(), Fail> {
     let alloc = rt.alloc();
-    let main = vec![in alloc;
-        Instr::Jump(2),
-        Instr::Pop,
-        Instr::Turn,
-        Instr::True,
-        Instr::JumpIf(2),
-    ]?;
-    let mut machine = machine_of(alloc, main, Vec::new(alloc), 9)?;
+    let main = turns_round(alloc)?;
+    let mut machine = machine_of(alloc, main, List::new(alloc), 9)?;
     assert_eq!(rt;
         shown(alloc, &machine.advance()?)?.as_slice(),
         b"spent".as_slice()
@@ -169,18 +212,8 @@ fn the_first_steps_are_traced(rt: HostRuntime) -> Result<(), Fail> {
 #[test]
 fn too_many_calls_run_at_once(rt: HostRuntime) -> Result<(), Fail> {
     let alloc = rt.alloc();
-    let main = vec![in alloc;
-        Instr::Closure(1),
-        Instr::Pack(0),
-        Instr::Call,
-        Instr::Return,
-    ]?;
-    let inner = vec![in alloc;
-        Instr::Closure(1),
-        Instr::Pack(0),
-        Instr::Call,
-        Instr::Return,
-    ]?;
+    let main = calls_itself(alloc)?;
+    let inner = is_called(alloc)?;
     let mut machine = machine_of(alloc, main, inner, 100001)?;
     let text = b"main.tl:1:5: stack overflow".as_slice();
     assert_eq!(rt; shown(alloc, &machine.advance()?)?.as_slice(), text);
