@@ -1,0 +1,9 @@
+pub mod Begin
+pub mod Telling
+pub mod Ends
+pub mod Levels
+pub mod Operands
+pub mod Outside
+pub mod Places
+pub mod Traces
+pub mod Walks

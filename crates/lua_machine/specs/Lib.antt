@@ -1,0 +1,11 @@
+pub mod Answers
+pub mod Frames
+pub mod Calls
+pub mod Flows
+pub mod Lists
+pub mod Loops
+pub mod Machines
+pub mod Outside
+pub mod Pacing
+pub mod Runs
+pub mod World
