@@ -1,4 +1,4 @@
-ghost use Rattle.std.specs.Prelude.{◌≡◌, ◌<◌, ◌∷◌, length, drop};
+ghost use Rattle.std.specs.Prelude.{◌≡◌, ◌<◌, [], ◌∷◌, ◌↔◌, IsTrue, length, drop};
 ghost use Rattle.lua_parser.specs.Words.{Words, words_of, sign, key, mark, slice_of};
 ghost use Rattle.lua_parser.specs.Machine.Steps.{binary_at};
 ghost use Rattle.lua_parser.specs.Outcomes.{head_is, head_pos, head_number, head_unary, head_binary, Eats, Takes, EatsText, TakesName};
@@ -35,6 +35,8 @@ impl From<NoMemory> for Stop {
 pub(crate) struct Cursor<'a> {
     source: &'a [u8],
     rest: &'a [Token],
+    /// The same from the token on that was taken last.
+    last: &'a [Token],
 }
 
 impl<'a> Model for Cursor<'a> {
@@ -50,7 +52,20 @@ impl<'a> Cursor<'a> {
         Cursor {
             source,
             rest: tokens,
+            last: tokens,
         }
+    }
+
+    /// Whether no token is left.
+    pub(crate) fn is_over(&self) -> bool
+        ensures { IsTrue result ↔ (self.now ≡ []) }
+    {
+        self.rest.is_empty()
+    }
+
+    /// Gives back the token that was taken last, at which reading stops.
+    pub(crate) fn back(&mut self) {
+        self.rest = self.last;
     }
 
     /// The place of the first token.
@@ -142,6 +157,7 @@ impl<'a> Cursor<'a> {
         requires { 0 < length self.old }
         ensures { self.new ≡ drop 1 self.old }
     {
+        self.last = self.rest;
         self.rest = &self.rest[1..];
     }
 

@@ -6,6 +6,8 @@ mod expressions;
 mod operators;
 mod reader;
 mod theorems;
+mod type_parts;
+mod types;
 
 pub use theorems::{
     at_most_one_fault, at_most_one_tree, no_fault_in_a_tree, one_code, tree_or_fault,
