@@ -34,15 +34,14 @@ pub record Leads {G : Type 0} (n : ℕ) (from : (G → Plan Block) → Plan Bloc
   pub taken : length new + n ≤ length old
   pub goes : (kind : ModuleKind) (k : G → Plan Block) → run kind (from k) old ≡ run kind (to k) new
 
--- The words are left from the first on that no spelling goes on with.
-pub record Halts {G : Type 0} (from : (G → Plan Block) → Plan Block) (old new : Words) : Type 0 where
-  pub stops : (kind : ModuleKind) (k : G → Plan Block) → run kind (from k) old ≡ Err new
+-- If no spelling goes on, these words are left from the first on with which none does.
+pub record Fails {G : Type 0} (from : (G → Plan Block) → Plan Block) (old : Words) (e : Stop) (new : Words) : Type 0 where
+  pub stops : e ≡ stop.Unexpected → (kind : ModuleKind) (k : G → Plan Block) → run kind (from k) old ≡ Err new
 
 -- A plan is read up to another one, or to where it halts.
 abbrev pub Turns : {G A : Type 0} → (A → ℕ) → ((G → Plan Block) → Plan Block) → (A → (G → Plan Block) → Plan Block) → Words → Result A Stop → Words → Type 0
 Turns n from to old (Ok v) new = Leads (n v) from old (to v) new
-Turns n from to old (Err stop.Unexpected) new = Halts from old new
-Turns n from to old (Err e) new = Unit {0}
+Turns n from to old (Err e) new = Fails from old e new
 
 -- What is left of a plan is read, and gives this.
 abbrev pub Gets : {G : Type 0} → ℕ → ((G → Plan Block) → Plan Block) → Words → Result G Stop → Words → Type 0
@@ -68,6 +67,11 @@ abbrev pub Meets : Mark → Words → Result Bool Stop → Words → Type 0
 Meets m old (Ok true) new = (p : Pos) × (old ≡ marked m p ∷ new)
 Meets m old (Ok false) new = (new ≡ old) × (head_is m old ≡ false) × (old ≡ [] → ⊥)
 Meets m old (Err e) new = (e ≡ stop.Unexpected) × (new ≡ old) × (old ≡ [])
+
+-- The union ends before the first word, if that is no bar.
+abbrev pub NoBar : Words → Result Join Stop → Type 0
+NoBar old (Ok j) = (j ≡ join.Over) × (head_is (sign s.Pipe) old ≡ false) × (old ≡ [] → ⊥)
+NoBar old (Err e) = (e ≡ stop.Unexpected) × ((old ≡ []) ⊎ (head_is (sign s.Pipe) old ≡ true))
 
 -- The first word was this name and is taken; or it is no name and nothing is taken; or memory ran out.
 abbrev pub EatsName : Words → Result (Option Name) Stop → Words → Type 0

@@ -10,7 +10,7 @@ ghost use Rattle.lua_parser.specs.Grammar.Types.{place, tuple, results, field};
 ghost use Rattle.lua_parser.specs.Machine.Plan.{Item, read};
 ghost use Rattle.lua_parser.specs.Machine.Steps.{is_text, single_result};
 ghost use Rattle.lua_parser.specs.Outcomes.{head_is};
-ghost use Rattle.lua_parser.specs.TypeReadings.{member_of, after_of, joined_by, Turns, Gets, ReadsPart, Stays, Meets, EatsName, rest_of_name, end_of_array, next_of_fields, type_of_field, Encloses, Builds, ReadsNamed};
+ghost use Rattle.lua_parser.specs.TypeReadings.{member_of, after_of, joined_by, Turns, Gets, ReadsPart, Stays, Meets, NoBar, EatsName, rest_of_name, end_of_array, next_of_fields, type_of_field, Encloses, Builds, ReadsNamed};
 
 use crate::cursor::{Cursor, Stop};
 use lua_lexer::{Keyword, Symbol};
@@ -173,7 +173,6 @@ pub(crate) fn closes(cursor: &mut Cursor<'_>, height: &mut u32, inner: u32) -> R
 }
 
 /// Reads on behind a member of a union that ended so, up to the next one.
-#[tactic(none)]
 pub(crate) fn joins(cursor: &mut Cursor<'_>, after: After) -> Result<Join, Stop>
     ensures { Turns (λ v. 0) (read (Item.more_of_union (after_of after))) joined_by cursor.old result cursor.new }
 {
@@ -186,18 +185,25 @@ pub(crate) fn joins(cursor: &mut Cursor<'_>, after: After) -> Result<Join, Stop>
                 Ok(Join::Over)
             }
         }
-        After::InTuple | After::InType => {
-            if cursor.is_over() || cursor.at(Symbol::Pipe) {
-                Err(Stop::Unexpected)
-            } else {
-                Ok(Join::Over)
-            }
-        }
+        After::InTuple => closed(cursor),
+        After::InType => closed(cursor),
     }
 }
 
+/// The end of a union, where no further member can follow.
+fn closed(cursor: &Cursor<'_>) -> Result<Join, Stop>
+    ensures { NoBar cursor.now result }
+{
+    if cursor.is_over() {
+        return Err(Stop::Unexpected);
+    }
+    if cursor.at(Symbol::Pipe) {
+        return Err(Stop::Unexpected);
+    }
+    Ok(Join::Over)
+}
+
 /// The rest of a dotted name.
-#[tactic(none)]
 pub(crate) fn dotted(
     alloc: Global,
     cursor: &mut Cursor<'_>,
@@ -260,7 +266,6 @@ fn negative(cursor: &mut Cursor<'_>, pos: Pos) -> Result<TypeExpr, Stop>
 }
 
 /// A type, or the same as an optional type if `?` follows. `height` is that of the type.
-#[tactic(none)]
 pub(crate) fn marked(
     alloc: Global,
     cursor: &mut Cursor<'_>,
@@ -298,7 +303,6 @@ pub(crate) fn enclosed(alloc: Global, pos: Pos, inside: Items) -> Result<TypeExp
 }
 
 /// The rest of a member that is a type in parentheses, whose `)` is taken. `inner` is the height of what stands in them.
-#[tactic(none)]
 pub(crate) fn parenthesised(
     alloc: Global,
     cursor: &mut Cursor<'_>,
@@ -352,7 +356,6 @@ pub(crate) fn field_of(start: FieldName, ty: TypeExpr) -> TypeField
 }
 
 /// The end of `{type}`. `inner` is the type's height.
-#[tactic(none)]
 pub(crate) fn array(
     alloc: Global,
     cursor: &mut Cursor<'_>,
@@ -407,7 +410,6 @@ pub(crate) fn pair(alloc: Global, first: TypeExpr, second: TypeExpr) -> Result<L
 }
 
 /// Reads on behind a name that may begin a field: up to the field's type, or nothing.
-#[tactic(none)]
 pub(crate) fn field_or_other(
     alloc: Global,
     cursor: &mut Cursor<'_>,
@@ -438,7 +440,6 @@ fn is_const(name: &Name) -> bool
 }
 
 /// Reads a field up to its type, behind its first name.
-#[tactic(none)]
 pub(crate) fn field_name(
     alloc: Global,
     cursor: &mut Cursor<'_>,
@@ -453,7 +454,6 @@ pub(crate) fn field_name(
 }
 
 /// Reads on behind a field of a record: the next one up to its type, or the record's end.
-#[tactic(none)]
 pub(crate) fn next_field(
     alloc: Global,
     cursor: &mut Cursor<'_>,

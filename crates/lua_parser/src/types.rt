@@ -18,7 +18,6 @@ use tl_base::{Boxed, List, Pos};
 // Each of these raises `height` to that of the highest type that it reads.
 
 /// A type.
-#[tactic(none)]
 #[cycle(types)]
 pub(crate) fn any_type(
     alloc: Global,
@@ -34,7 +33,6 @@ pub(crate) fn any_type(
 }
 
 /// A type whose first member is read already, and has the height `highest`.
-#[tactic(none)]
 #[cycle(types)]
 fn union(
     alloc: Global,
@@ -67,7 +65,6 @@ fn union(
 }
 
 /// One more member of a union, behind one that ended so.
-#[tactic(none)]
 #[cycle(types)]
 fn next_member(
     alloc: Global,
@@ -95,7 +92,6 @@ fn next_member(
 }
 
 /// A member of a union.
-#[tactic(none)]
 #[cycle(types)]
 fn member(
     alloc: Global,
@@ -117,7 +113,6 @@ fn member(
 }
 
 /// A member that begins with no `(`.
-#[tactic(none)]
 #[cycle(types)]
 fn plain(
     alloc: Global,
@@ -142,7 +137,6 @@ fn plain(
 }
 
 /// The rest of a member that begins with `(`, which stood at `pos`.
-#[tactic(none)]
 #[cycle(types)]
 fn behind_paren(
     alloc: Global,
@@ -164,7 +158,6 @@ fn behind_paren(
 }
 
 /// The types of a tuple, with the `)` behind them.
-#[tactic(none)]
 #[cycle(types)]
 pub(crate) fn tuple(
     alloc: Global,
@@ -194,7 +187,6 @@ pub(crate) fn tuple(
 }
 
 /// The results of a function type.
-#[tactic(none)]
 #[cycle(types)]
 fn results(
     alloc: Global,
@@ -233,7 +225,6 @@ fn results(
 }
 
 /// The rest of a type that begins with `{`, which stood at `pos`.
-#[tactic(none)]
 #[cycle(types)]
 fn braces(
     alloc: Global,
@@ -251,16 +242,17 @@ fn braces(
     if cursor.eat(Symbol::OpenBracket) {
         return map(alloc, inside, cursor, pos, height);
     }
-    if let Some(name) = maybe_name(alloc, cursor)? {
-        return named_in_braces(alloc, inside, cursor, pos, name, height);
+    match maybe_name(alloc, cursor)? {
+        Some(name) => named_in_braces(alloc, inside, cursor, pos, name, height),
+        None => {
+            let mut inner = 0;
+            let ty = any_type(alloc, inside, cursor, &mut inner)?;
+            array(alloc, cursor, pos, ty, height, inner)
+        }
     }
-    let mut inner = 0;
-    let ty = any_type(alloc, inside, cursor, &mut inner)?;
-    array(alloc, cursor, pos, ty, height, inner)
 }
 
 /// The rest of a map type, behind its bracket.
-#[tactic(none)]
 #[cycle(types)]
 fn map(
     alloc: Global,
@@ -282,7 +274,6 @@ fn map(
 }
 
 /// The rest of a type in braces that begins with a name.
-#[tactic(none)]
 #[cycle(types)]
 fn named_in_braces(
     alloc: Global,
@@ -316,7 +307,6 @@ fn named_in_braces(
 }
 
 /// The fields of a record, behind the name of the first.
-#[tactic(none)]
 #[cycle(types)]
 fn fields(
     alloc: Global,

@@ -1,31 +1,27 @@
-use Rattle.std.proofs.Common.{rules, ◌≡◌, ◌++◌, ◌∷◌, [], ℕ, Bool, Some, None, Ok, IfErr, IfOk, ◌+◌, false, true, codes}
-use Rattle.std.proofs.Common.{List as Seq}
-use Rattle.std.proofs.Common.{◌-◌, ◌*◌, ◌<◌, ◌≤◌, length, ◌/◌, ◌%◌, nat_eq, nat_lt, List, slice_index_or, slice_set, bit_and, bit_or, Fits, w8, w32, Bor, MutBor}
-use Rattle.std.specs.Int.{w64, int_wrap}
-use Rattle.lua_tree.specs.declared.annotation.TypeField.{TypeField}
-use Rattle.lua_parser.specs.declared.cursor.Stop.TheVariants as stop
-use Rattle.lua_parser.specs.declared.type_parts.After.TheVariants as after
+use Rattle.std.proofs.Common.{◌≡◌, ◌+◌, ◌≤◌, ◌<◌, ◌∷◌, ◌++◌, [], length, Some, None, Ok, Err, true, false, refl, sym, ap, subst, ◌∙◌, arith, inl, inr, rules, append_assoc, append-nil}
+use Rattle.std.proofs.lemmas.Result.{err_from_is_err_and}
+use Rattle.std.proofs.lemmas.Int.{wrapping_neg_is, to_z-of_z}
+use Rattle.std.specs.Int.{w64, int_wrapping_neg}
+use Rattle.lua_tree.specs.declared.annotation.TypeExpr.TheVariants as t
 use Rattle.lua_lexer.specs.declared.token.Symbol.TheVariants as s
-use Rattle.lua_parser.specs.Words.{Words, sign}
-use Rattle.lua_parser.specs.Grammar.Types.{place, tuple, results, field}
-use Rattle.lua_parser.specs.Machine.Plan.{Item, read}
-use Rattle.lua_parser.specs.Machine.Steps.{is_text, single_result}
-use Rattle.lua_parser.specs.Outcomes.{head_is}
-use Rattle.lua_parser.specs.TypeReadings.{member_of, after_of, joined_by, Turns, Gets, ReadsPart, Stays, Meets, EatsName, rest_of_name, end_of_array, next_of_fields, type_of_field, Encloses, Builds, ReadsNamed}
+use Rattle.lua_lexer.specs.declared.token.Keyword.TheVariants as w
+use Rattle.lua_parser.specs.declared.cursor.Stop.TheVariants as stop
+use Rattle.lua_parser.specs.Words.{sign, key, marked, named}
+use Rattle.lua_parser.specs.Grammar.Types.{InItself, InTuple, InType, field, tuple, results}
+use Rattle.lua_parser.specs.Machine.Plan.{Item, read, want, ended, joined}
+use Rattle.lua_parser.specs.Machine.Steps.{union_of, tuple_then}
+use Rattle.lua_parser.specs.TypeReadings.{Leads, Fails, Turns, after_of, joined_by, member_of, items_of, item_behind, rest_of_name, end_of_array, type_of_field}
+use Rattle.lua_parser.proofs.TypeSteps as steps
 use Rattle.lua_parser.proofs.type_parts.parenthesised.Goals as goal
 
--- src/type_parts.rt:312:14
 pub returns-in_err-ty : goal.returns-in_err-ty
-returns-in_err-ty c = ?
+returns-in_err-ty c = λ h. let p = err_from_is_err_and c.from_residual.result c.from_residual.ensures.1 in rw (p.1, p.2) (steps.enclosed_fails c.args.pos c.args.inside _ _ c.in_err-ty.ensures h.1)
 
--- src/type_parts.rt:314:5
 pub returns-in_err-closes : goal.returns-in_err-closes
-returns-in_err-closes c = ?
+returns-in_err-closes c = λ h. let p = err_from_is_err_and c.from_residual-in_err-closes.result c.from_residual-in_err-closes.ensures.1 in rw (p.1, p.2) (steps.fails_deep c.in_err-closes.ensures)
 
--- src/type_parts.rt:315:14
 pub returns-in_err-ty-2 : goal.returns-in_err-ty-2
-returns-in_err-ty-2 c = ?
+returns-in_err-ty-2 c = λ h. let p = err_from_is_err_and c.from_residual-in_err-ty-2.result c.from_residual-in_err-ty-2.ensures.1 in rw (p.1, p.2) (steps.fails_in steps.in_itself (steps.stayed c.in_ok-closes.ensures (steps.enclosed_leads c.args.pos c.args.inside c.in_ok-ty.ty _ c.in_ok-ty.ensures h.1 h.2)) c.in_err-ty-2.ensures)
 
--- src/type_parts.rt:301:1
 pub returns : goal.returns
-returns c = ?
+returns c = λ h. steps.leads_part steps.in_itself (steps.stayed c.in_ok-closes.ensures (steps.enclosed_leads c.args.pos c.args.inside c.in_ok-ty.ty _ c.in_ok-ty.ensures h.1 h.2)) c.in_ok-ty-2.ensures
