@@ -1,5 +1,5 @@
 -- How the reader's steps in types follow the machine's.
-use Rattle.std.proofs.Common.{◌≡◌, ℕ, ℤ, ◌+◌, ◌≤◌, Bool, true, false, Option, Some, None, List, [], ◌∷◌, ◌++◌, length, Result, Ok, Err, ◌<◌, ◌⊎◌, inl, inr, ◌==◌, refl, sym, ap, subst, ◌∙◌, arith, append_assoc, append-nil}
+use Rattle.std.proofs.Common.{◌≡◌, ℕ, ℤ, ◌+◌, ◌≤◌, Bool, true, false, Option, Some, None, List, [], ◌∷◌, ◌++◌, length, Result, Ok, Err, ◌<◌, ◌⊎◌, inl, inr, ◌==◌, refl, sym, ap, subst, ◌∙◌, arith, length-append, append_assoc, append-nil}
 use Rattle.std.specs.Prelude.{if◌then◌else◌, codes, drop, neg_ℤ}
 use Rattle.std.specs.Option.{is_some}
 use Rattle.std.specs.Int.{w64, int_wrap}
@@ -701,3 +701,14 @@ named_other_leads o x y old new h = rw h.0 (stayed h.1 (goes_on old h.2 h.3))
     goes_on : (ts : Words) → head_is (sign s.Colon) ts ≡ false → (is_text x.text (codes "const") ≡ true → head_name ts ≡ None) → Leads 0 (read (Item.named_in_braces o x)) ts (λ k. rest_of_name x (then_union o k)) ts
     goes_on [] g f = record { taken = omega arith; goes = λ kind k. refl }
     goes_on (z ∷ ts) g f = record { taken = omega arith; goes = λ kind k. named_other o x z.kind z.pos ts kind k g f }
+
+pub one_of : (xs ys : List TypeExpr) (x : TypeExpr) → length xs ≡ 1 → xs ≡ ys ++ x ∷ [] → xs ≡ x ∷ []
+one_of xs [] x h e = e
+one_of xs (y ∷ ys) x h e = let l : 1 ≡ length ((y ∷ ys) ++ x ∷ []) = sym h ∙ ap length e in absurd (omega (arith, l, length-append ys (x ∷ [])))
+
+pub no_tail : (o : Option TypeExpr) → false ≡ is_some o → o ≡ None
+no_tail None h = refl
+no_tail (Some x) h = cc
+
+pub empty_stuck : (p : Pos) (xs ys : List TypeExpr) (rest : Option TypeExpr) (k : WordKind) → length xs ≡ 1 → xs ≡ ys → length ys ≡ 0 → paren_step p xs rest k ≡ stuck
+empty_stuck p xs ys rest k h e g = let l = ap length e in absurd (omega (arith, l))

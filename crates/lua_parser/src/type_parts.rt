@@ -292,10 +292,10 @@ pub(crate) fn enclosed(alloc: Global, pos: Pos, inside: Items) -> Result<TypeExp
     if tail.is_some() {
         return Err(Stop::Unexpected);
     }
-    let mut types = items.into_vec();
-    if types.len() != 1 {
+    if items.len() != 1 {
         return Err(Stop::Unexpected);
     }
+    let mut types = items.into_vec();
     match types.pop() {
         Some(ty) => Ok(TypeExpr::Paren(pos, Boxed::new(alloc, ty)?)),
         None => Err(Stop::Unexpected),
