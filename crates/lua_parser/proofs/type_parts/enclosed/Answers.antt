@@ -1,7 +1,6 @@
 use Rattle.std.proofs.Common.{◌≡◌, ◌+◌, ◌≤◌, ◌<◌, ◌∷◌, ◌++◌, [], length, Some, None, Ok, Err, true, false, refl, sym, ap, subst, ◌∙◌, arith, inl, inr, rules, append_assoc, append-nil}
 use Rattle.std.proofs.lemmas.Result.{err_from_is_err_and}
 use Rattle.std.proofs.lemmas.Int.{wrapping_neg_is, to_z-of_z}
-use Rattle.std.specs.Vec.{vec_len}
 use Rattle.std.specs.Int.{w64, int_wrapping_neg}
 use Rattle.lua_tree.specs.declared.annotation.TypeExpr.TheVariants as t
 use Rattle.lua_lexer.specs.declared.token.Symbol.TheVariants as s
@@ -31,5 +30,4 @@ pub returns-in-Some : goal.returns-in-Some
 returns-in-Some c = (c.in-Some.ty, steps.one_of _ _ _ (sym c.len.ensures ∙ c.if-len-ne1.false) (sym c.into_vec-types.ensures ∙ c.in-Some.ensures.items), steps.no_tail _ c.if-is_some.ensures, ap (t.Paren c.args.pos) c.in_ok-new-in-Some.ensures)
 
 pub returns : goal.returns
-unfolding vec_len
 returns c = λ k. steps.empty_stuck _ _ c.into_vec-types.result.items _ k (sym c.len.ensures ∙ c.if-len-ne1.false) (sym c.into_vec-types.ensures) (sym c.into_vec-types.result.ok.0 ∙ c.in-None.ensures.cases.0)
