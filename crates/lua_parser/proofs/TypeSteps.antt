@@ -1,11 +1,12 @@
 -- How the reader's steps in types follow the machine's.
 use Rattle.std.proofs.Common.{◌≡◌, ℕ, ℤ, ◌+◌, ◌≤◌, Bool, true, false, Option, Some, None, List, [], ◌∷◌, ◌++◌, length, Result, Ok, Err, ◌<◌, ◌⊎◌, inl, inr, ◌==◌, refl, sym, ap, subst, ◌∙◌, arith, length-append, append_assoc, append-nil}
-use Rattle.std.specs.Prelude.{if◌then◌else◌, codes, drop, neg_ℤ}
+use Rattle.std.specs.Prelude.{if◌then◌else◌, codes, drop, neg_ℤ, ◌&&◌}
 use Rattle.std.specs.Option.{is_some}
 use Rattle.std.specs.Int.{w64, int_wrap}
 use Rattle.std.proofs.lemmas.Bool.Decides.{nat_tests}
 use Rattle.tl_base.specs.declared.place.Pos.{Pos}
 use Rattle.tl_base.specs.declared.place.ModuleKind.{ModuleKind}
+use Rattle.tl_base.specs.declared.place.ModuleKind.TheVariants as module_kind
 use Rattle.lua_tree.specs.declared.annotation.Name.{Name}
 use Rattle.lua_tree.specs.declared.annotation.TypeExpr.{TypeExpr}
 use Rattle.lua_tree.specs.declared.annotation.TypeExpr.TheVariants as t
@@ -25,10 +26,10 @@ use Rattle.lua_parser.specs.declared.cursor.Stop.TheVariants as stop
 use Rattle.lua_parser.specs.Words.{Word, Words, WordKind, Mark, mark, sign, key, marked, named, name_at, numeral, quoted}
 use Rattle.lua_parser.specs.Grammar.Types.{Ending, place, InItself, InTuple, InType, field, tuple, results}
 use Rattle.lua_parser.specs.Machine.Plan.{After, ended, joined, Item, Gives, Plan, done, want, want_name, read, Reply, stuck, ends, takes}
-use Rattle.lua_parser.specs.Machine.Steps.{if_name, if_number, if_text, is_text, paren_step, mark_number, is_mark, is_sign, union_of, tuple_then, single_result, start_plain, start_type, going, begun}
+use Rattle.lua_parser.specs.Machine.Steps.{is_typed, if_name, if_number, if_text, is_text, paren_step, mark_number, is_mark, is_sign, union_of, tuple_then, single_result, start_plain, start_type, going, begun}
 use Rattle.lua_parser.specs.Machine.Run.{run}
 use Rattle.lua_parser.specs.Outcomes.{head_is, head_pos, head_name, head_number, head_text, Eats, Takes, TakesName, EatsText}
-use Rattle.lua_parser.specs.TypeReadings.{end_of_array, Encloses, ReadsNamed, rest_of_name, type_of_field, Leads, Fails, Turns, Meets, NoBar, joined_by, item_behind, rest_of_map, fields_behind}
+use Rattle.lua_parser.specs.TypeReadings.{ReadsIn, end_of_array, Encloses, ReadsNamed, rest_of_name, type_of_field, Leads, Fails, Turns, Meets, NoBar, joined_by, item_behind, rest_of_map, fields_behind}
 use Rattle.lua_parser.proofs.Completeness.Plans.{want_on, after, run_takes, if_true, on, read_on, if_false, on_going, begins_as}
 use Rattle.lua_parser.proofs.Completeness.Firsts.{after_name}
 use Rattle.lua_parser.proofs.Completeness.Types.{named_unfold, type_unfold, tuple_unfold, results_unfold, body_results_unfold, mark_ends, name_ends, union_ends, results_end, bar_ends, body_results_end, paren_ends}
@@ -712,3 +713,127 @@ no_tail (Some x) h = cc
 
 pub empty_stuck : (p : Pos) (xs ys : List TypeExpr) (rest : Option TypeExpr) (k : WordKind) → length xs ≡ 1 → xs ≡ ys → length ys ≡ 0 → paren_step p xs rest k ≡ stuck
 empty_stuck p xs ys rest k h e g = let l = ap length e in absurd (omega (arith, l))
+
+-- ---- results of bodies
+
+abbrev pub more_bodies : Pos → List TypeTuple → (TypeResults → P) → List TypeExpr × Option TypeExpr → P
+more_bodies p xs k a = read Item.more_body_results λ r. k (results p (xs ++ tuple a.0 a.1 ∷ r))
+
+abbrev pub first_body : Pos → (TypeResults → P) → P
+first_body p k = tuple_then λ a. read Item.more_body_results λ r. k (results p (tuple a.0 a.1 ∷ r))
+
+abbrev pub bodies : Pos → List TypeTuple → (TypeResults → P) → List TypeTuple → P
+bodies p ys k r = k (results p (ys ++ r))
+
+abbrev pub only_result : (TypeResults → P) → TypeExpr → P
+only_result k y = k (single_result y)
+
+pub body_results_lead : (p : Pos) (ts : Words) → Leads 1 (read Item.body_results) (marked (sign s.OpenParen) p ∷ ts) (first_body p) ts
+body_results_lead p ts = record { taken = omega arith; goes = λ kind k. refl }
+
+pub body_result_leads : (ts : Words) → head_is (sign s.OpenParen) ts ≡ false → Leads 0 (read Item.body_results) ts (λ k. read Item.a_type (only_result k)) ts
+body_result_leads [] h = record { taken = omega arith; goes = λ kind k. refl }
+body_result_leads (x ∷ ts) h = record { taken = omega arith; goes = λ kind k. body_results_unfold kind k x ts h }
+
+pub body_end_leads : (ts : Words) → head_is (sign s.Pipe) ts ≡ false → (ts ≡ [] → ⊥) → Leads 0 (read Item.more_body_results) ts (λ k. k []) ts
+body_end_leads [] h f = absurd (f refl)
+body_end_leads (x ∷ ts) h f = record { taken = omega arith; goes = λ kind k. body_results_end kind k x ts h }
+
+pub body_bar_leads : (p : Pos) (ts : Words) → Leads 1 (read Item.more_body_results) (marked (sign s.Pipe) p ∷ ts) (λ k. want (sign s.OpenParen) λ _. tuple_then λ a. read Item.more_body_results λ r. k (tuple a.0 a.1 ∷ r)) ts
+body_bar_leads p ts = record { taken = omega arith; goes = λ kind k. refl }
+
+pub bodies_begin : {from : (TypeResults → P) → P} {old new : Words} (p : Pos) (xs : List TypeTuple) → xs ≡ [] → Leads 1 from old (first_body p) new → Leads 1 from old (λ k. tuple_then (more_bodies p xs k)) new
+bodies_begin p xs h f = rw h f
+
+pub bodies_pushed : {from : (TypeResults → P) → P} {m : ℕ} {old new : Words} (p : Pos) (xs all : List TypeTuple) (x y : TypeTuple) → Leads m from old (λ k. read Item.more_body_results λ r. k (results p (xs ++ x ∷ r))) new → y ≡ x → all ≡ xs ++ y ∷ [] → Leads m from old (λ k. read Item.more_body_results (bodies p all k)) new
+bodies_pushed {new = new} p xs all x y f g h = let e : all ≡ xs ++ x ∷ [] = h ∙ ap (λ z. xs ++ z ∷ []) g in record { taken = f.taken; goes = λ kind k. f.goes kind k ∙ ap (λ q. run kind (read Item.more_body_results q) new) (λ i r. k (results p (appended xs all x e r i))) }
+
+-- ---- fields of interfaces
+
+abbrev pub next_of_interface : (List TypeField → P) → TypeField → P
+next_of_interface k f = read Item.maybe_separator λ _. read Item.fields_of_interface λ fs. k (f ∷ fs)
+
+abbrev pub interface_named : Name → (List TypeField → P) → P
+interface_named x k = read (Item.rest_of_field x) (next_of_interface k)
+
+abbrev pub behind_separator : List TypeField → (List TypeField → P) → Unit {0} → P
+behind_separator all k u = read Item.fields_of_interface (fields_with all k)
+
+pub interface_starts : (ts : Words) (xs : List TypeField) → xs ≡ [] → Leads 0 (read Item.fields_of_interface) ts (λ k. read Item.fields_of_interface (fields_with xs k)) ts
+interface_starts ts xs h = rw h (leads_same (read Item.fields_of_interface) ts)
+
+pub interface_ends : (p : Pos) (ts : Words) → Leads 1 (read Item.fields_of_interface) (marked (key w.End) p ∷ ts) (λ k. k []) ts
+interface_ends p ts = record { taken = omega arith; goes = λ kind k. refl }
+
+wants_name : (kind : ModuleKind) (c : WordKind) (q : Pos) (ts : Words) (k : List TypeField → P)
+    → on kind (record { kind = c; pos = q }) ts (if_name c (λ x. takes (read (Item.rest_of_field (name_at q x)) λ f. read Item.maybe_separator λ _. read Item.fields_of_interface λ fs. done (f ∷ fs))) stuck) k ≡ run kind (want_name λ x. interface_named x k) (record { kind = c; pos = q } ∷ ts)
+wants_name kind (WordKind.name n) q ts k = refl
+wants_name kind (WordKind.number n) q ts k = refl
+wants_name kind (WordKind.text n) q ts k = refl
+wants_name kind (mark m) q ts k = refl
+
+pub interface_wants : (ts : Words) → head_is (key w.End) ts ≡ false → Leads 0 (read Item.fields_of_interface) ts (λ k. want_name λ x. interface_named x k) ts
+interface_wants [] h = record { taken = omega arith; goes = λ kind k. refl }
+interface_wants (x ∷ ts) h = record { taken = omega arith; goes = λ kind k. read_on kind Item.fields_of_interface k x ts ∙ ap (λ r. on kind x ts r k) (if_false _ _ _ h) ∙ wants_name kind x.kind x.pos ts k }
+
+-- what the next field of an interface is read up to
+abbrev pub named_with : List TypeField → Name → (List TypeField → P) → P
+named_with xs x k = interface_named x (fields_with xs k)
+
+abbrev pub field_with : List TypeField → (List TypeField → P) → TypeField → P
+field_with xs k = next_of_interface (fields_with xs k)
+
+abbrev pub typed_with : List TypeField → FieldName → (List TypeField → P) → TypeExpr → P
+typed_with xs f k a = next_of_interface (fields_with xs k) (field f.is_const f.name a)
+
+pub separated : {from : (List TypeField → P) → P} {m : ℕ} {old new : Words} (xs all : List TypeField) (x y : TypeField) → Leads m from old (λ k. next_of_interface (fields_with xs k) x) new → y ≡ x → all ≡ xs ++ y ∷ [] → Leads m from old (λ k. read Item.maybe_separator (behind_separator all k)) new
+separated {new = new} xs all x y f g h = let e : all ≡ xs ++ x ∷ [] = h ∙ ap (λ z. xs ++ z ∷ []) g in record { taken = f.taken; goes = λ kind k. f.goes kind k ∙ ap (λ q. run kind (read Item.maybe_separator q) new) (λ i u. read Item.fields_of_interface (λ fs. k (appended xs all x e fs i))) }
+
+pub comma_separates : (p : Pos) (ts : Words) → Leads 1 (read Item.maybe_separator) (marked (sign s.Comma) p ∷ ts) (λ k. k tt) ts
+comma_separates p ts = record { taken = omega arith; goes = λ kind k. refl }
+
+pub semicolon_separates : (p : Pos) (ts : Words) → Leads 1 (read Item.maybe_separator) (marked (sign s.Semicolon) p ∷ ts) (λ k. k tt) ts
+semicolon_separates p ts = record { taken = omega arith; goes = λ kind k. refl }
+
+pub nothing_separates : (ts : Words) → head_is (sign s.Comma) ts ≡ false → head_is (sign s.Semicolon) ts ≡ false → (ts ≡ [] → ⊥) → Leads 0 (read Item.maybe_separator) ts (λ k. k tt) ts
+nothing_separates [] h g f = absurd (f refl)
+nothing_separates (x ∷ ts) h g f = record { taken = omega arith; goes = λ kind k. read_on kind Item.maybe_separator k x ts ∙ ap (λ r. on kind x ts r k) (if_false _ _ _ h ∙ if_false _ _ _ g) }
+
+-- ---- annotations
+
+pub no_annotation : (kind : ModuleKind) (old new : Words) → (new ≡ old) × ((is_typed kind && head_is (sign s.Colon) old) ≡ false) × (old ≡ [] → ⊥) → ReadsIn kind Item.annotation old (Ok None) new
+no_annotation kind old new h = subst (λ z. ReadsIn kind Item.annotation old (Ok None) z) (sym h.0) (go old h.1 h.2)
+  where
+    go : (ts : Words) → (is_typed kind && head_is (sign s.Colon) ts) ≡ false → (ts ≡ [] → ⊥) → ReadsIn kind Item.annotation ts (Ok None) ts
+    go [] g f = absurd (f refl)
+    go (x ∷ ts) g f = (omega arith, λ k. read_on kind Item.annotation k x ts ∙ ap (λ r. on kind x ts r k) (if_false _ _ _ g))
+
+pub no_outcome : (kind : ModuleKind) (old new : Words) → (new ≡ old) × ((is_typed kind && head_is (sign s.Colon) old) ≡ false) × (old ≡ [] → ⊥) → ReadsIn kind Item.outcome old (Ok None) new
+no_outcome kind old new h = subst (λ z. ReadsIn kind Item.outcome old (Ok None) z) (sym h.0) (go old h.1 h.2)
+  where
+    go : (ts : Words) → (is_typed kind && head_is (sign s.Colon) ts) ≡ false → (ts ≡ [] → ⊥) → ReadsIn kind Item.outcome ts (Ok None) ts
+    go [] g f = absurd (f refl)
+    go (x ∷ ts) g f = (omega arith, λ k. read_on kind Item.outcome k x ts ∙ ap (λ r. on kind x ts r k) (if_false _ _ _ g))
+
+pub fails_in_kind : (kind : ModuleKind) (j : Item) (old new : Words) (e : Stop) → (e ≡ stop.Unexpected) × (new ≡ old) × (old ≡ []) → ReadsIn kind j old (Err e) new
+fails_in_kind kind j old new e h = λ d k. (meets_fails j old new e h).stops d kind k
+
+annotation_goes : (kind : ModuleKind) (p : Pos) (ts : Words) (k : Option TypeExpr → P) → is_typed kind ≡ true → run kind (read Item.annotation k) (marked (sign s.Colon) p ∷ ts) ≡ run kind (read Item.a_type λ x. k (Some x)) ts
+annotation_goes module_kind.Typed p ts k h = refl
+annotation_goes module_kind.Untyped p ts k h = cc
+
+outcome_goes : (kind : ModuleKind) (p : Pos) (ts : Words) (k : Option TypeResults → P) → is_typed kind ≡ true → run kind (read Item.outcome k) (marked (sign s.Colon) p ∷ ts) ≡ run kind (read Item.body_results λ x. k (Some x)) ts
+outcome_goes module_kind.Typed p ts k h = refl
+outcome_goes module_kind.Untyped p ts k h = cc
+
+pub annotation_reads : (kind : ModuleKind) (old mid new : Words) (v : TypeExpr) → (p : Pos) × (is_typed kind ≡ true) × (old ≡ marked (sign s.Colon) p ∷ mid) → Leads 1 (read Item.a_type) mid (λ k. k v) new → ReadsIn kind Item.annotation old (Ok (Some v)) new
+annotation_reads kind old mid new v h f = let a = f.taken in (let b = ap length h.2 in (omega (arith, a, b), λ k. ap (run kind (read Item.annotation k)) h.2 ∙ annotation_goes kind h.0 mid k h.1 ∙ f.goes kind (λ x. k (Some x))))
+
+pub annotation_fails : (kind : ModuleKind) (old mid new : Words) (e : Stop) → (p : Pos) × (is_typed kind ≡ true) × (old ≡ marked (sign s.Colon) p ∷ mid) → Fails (read Item.a_type) mid e new → ReadsIn kind Item.annotation old (Err e) new
+annotation_fails kind old mid new e h f = λ d k. ap (run kind (read Item.annotation k)) h.2 ∙ annotation_goes kind h.0 mid k h.1 ∙ f.stops d kind (λ x. k (Some x))
+
+pub outcome_reads : (kind : ModuleKind) (old mid new : Words) (v : TypeResults) → (p : Pos) × (is_typed kind ≡ true) × (old ≡ marked (sign s.Colon) p ∷ mid) → Leads 1 (read Item.body_results) mid (λ k. k v) new → ReadsIn kind Item.outcome old (Ok (Some v)) new
+outcome_reads kind old mid new v h f = let a = f.taken in (let b = ap length h.2 in (omega (arith, a, b), λ k. ap (run kind (read Item.outcome k)) h.2 ∙ outcome_goes kind h.0 mid k h.1 ∙ f.goes kind (λ x. k (Some x))))
+
+pub outcome_fails : (kind : ModuleKind) (old mid new : Words) (e : Stop) → (p : Pos) × (is_typed kind ≡ true) × (old ≡ marked (sign s.Colon) p ∷ mid) → Fails (read Item.body_results) mid e new → ReadsIn kind Item.outcome old (Err e) new
+outcome_fails kind old mid new e h f = λ d k. ap (run kind (read Item.outcome k)) h.2 ∙ outcome_goes kind h.0 mid k h.1 ∙ f.stops d kind (λ x. k (Some x))

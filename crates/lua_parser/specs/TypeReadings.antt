@@ -1,5 +1,5 @@
 -- What the calls that read types say: each reads a part as the machine does, wherever the part stands.
-use Rattle.std.specs.Prelude.{◌≡◌, ℕ, ◌+◌, ◌≤◌, Bool, true, false, Option, Some, None, List, [], ◌∷◌, ◌⊎◌, length, Result, Ok, Err, codes}
+use Rattle.std.specs.Prelude.{◌≡◌, ℕ, ◌+◌, ◌≤◌, Bool, true, false, Option, Some, None, List, [], ◌∷◌, ◌⊎◌, length, Result, Ok, Err, codes, ◌&&◌}
 use Rattle.tl_base.specs.declared.place.Pos.{Pos}
 use Rattle.tl_base.specs.declared.place.ModuleKind.{ModuleKind}
 use Rattle.lua_tree.specs.declared.annotation.Name.{Name}
@@ -25,7 +25,7 @@ use Rattle.lua_parser.specs.declared.type_parts.Join.TheVariants as join
 use Rattle.lua_parser.specs.Words.{WordKind, Mark, Words, marked, named, sign}
 use Rattle.lua_parser.specs.Grammar.Types.{InItself, InTuple, InType, field, tuple, results}
 use Rattle.lua_parser.specs.Machine.Plan.{After, ended, joined, Item, Gives, Plan, done, want, read, Reply, stuck}
-use Rattle.lua_parser.specs.Machine.Steps.{union_of, paren_step, tuple_then, is_text}
+use Rattle.lua_parser.specs.Machine.Steps.{is_typed, union_of, paren_step, tuple_then, is_text}
 use Rattle.lua_parser.specs.Machine.Run.{run}
 use Rattle.lua_parser.specs.Outcomes.{head_is, head_name}
 
@@ -54,8 +54,13 @@ ReadsPart n j give = Turns (λ v. n) (read j) (λ v k. k (give v))
 -- The part is read in a module of this kind, and gives this.
 abbrev pub ReadsIn : ModuleKind → (j : Item) → Words → Result (Gives j) Stop → Words → Type 0
 ReadsIn kind j old (Ok v) new = (length new ≤ length old) × ((k : Gives j → Plan Block) → run kind (read j k) old ≡ run kind (k v) new)
-ReadsIn kind j old (Err stop.Unexpected) new = (k : Gives j → Plan Block) → run kind (read j k) old ≡ Err new
-ReadsIn kind j old (Err e) new = Unit {0}
+ReadsIn kind j old (Err e) new = e ≡ stop.Unexpected → (k : Gives j → Plan Block) → run kind (read j k) old ≡ Err new
+
+-- There is a first word, and it was the colon of a type and is taken, or isn't and nothing is taken.
+abbrev pub MeetsColon : ModuleKind → Words → Result Bool Stop → Words → Type 0
+MeetsColon kind old (Ok true) new = (p : Pos) × (is_typed kind ≡ true) × (old ≡ marked (sign s.Colon) p ∷ new)
+MeetsColon kind old (Ok false) new = (new ≡ old) × ((is_typed kind && head_is (sign s.Colon) old) ≡ false) × (old ≡ [] → ⊥)
+MeetsColon kind old (Err e) new = (e ≡ stop.Unexpected) × (new ≡ old) × (old ≡ [])
 
 -- A step that takes no word: it fails for another reason than the words.
 abbrev pub Stays : Words → Result (Unit {0}) Stop → Words → Type 0

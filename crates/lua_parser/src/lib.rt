@@ -1,6 +1,7 @@
 //! The grammar of Lua with optional types, and the reading of a module's tree.
 #![tactic(auto)]
 
+mod annotations;
 mod cursor;
 mod expressions;
 mod operators;
