@@ -126,9 +126,12 @@ type_leads ts = record { taken = omega arith; goes = λ kind k. type_unfold kind
 
 pub member_leads : (ts : Words) → head_is (sign s.OpenParen) ts ≡ false → Leads 0 (read Item.a_member) ts (λ k. read Item.a_plain_member λ x. k (x, ended InItself)) ts
 member_leads [] h = record { taken = omega arith; goes = λ kind k. refl }
-member_leads (x ∷ ts) h = record { taken = omega arith; goes = λ kind k.
-    read_on kind Item.a_member k x ts ∙ ap (λ o. on kind x ts (begun o) k) (if_false _ _ (going (start_plain x.pos x.kind) (λ y. done (y, ended InItself))) h)
-    ∙ on_going kind x ts (start_plain x.pos x.kind) (λ y. done (y, ended InItself)) k ∙ sym (read_on kind Item.a_plain_member (λ y. k (y, ended InItself)) x ts) }
+member_leads (x ∷ ts) h = record {
+  taken = omega arith;
+  goes = λ kind k.
+      read_on kind Item.a_member k x ts ∙ ap (λ o. on kind x ts (begun o) k) (if_false _ _ (going (start_plain x.pos x.kind) (λ y. done (y, ended InItself))) h)
+      ∙ on_going kind x ts (start_plain x.pos x.kind) (λ y. done (y, ended InItself)) k ∙ sym (read_on kind Item.a_plain_member (λ y. k (y, ended InItself)) x ts);
+}
 
 pub paren_leads : (p : Pos) (ts : Words) → Leads 1 (read Item.a_member) (marked (sign s.OpenParen) p ∷ ts) (λ k. tuple_then λ a. read (Item.behind_tuple p a.0 a.1) k) ts
 paren_leads p ts = record { taken = omega arith; goes = λ kind k. refl }
@@ -216,8 +219,11 @@ comma_leads y p ts = record { taken = omega arith; goes = λ kind k. refl }
 
 pub last_leads : (y : TypeExpr) (ts : Words) → head_is (sign s.Star) ts ≡ false → head_is (sign s.Comma) ts ≡ false → Leads 0 (item_behind y) ts (λ k. want (sign s.CloseParen) λ _. k (y ∷ [], None)) ts
 last_leads y [] h g = record { taken = omega arith; goes = λ kind k. refl }
-last_leads y (x ∷ ts) h g = record { taken = omega arith; goes = λ kind k.
-    read_on kind (Item.more_of_tuple y) (λ r. want (sign s.CloseParen) λ _. k r) x ts ∙ ap (λ z. on kind x ts z (λ r. want (sign s.CloseParen) λ _. k r)) (if_false _ _ _ h ∙ if_false _ _ _ g) }
+last_leads y (x ∷ ts) h g = record {
+  taken = omega arith;
+  goes = λ kind k.
+      read_on kind (Item.more_of_tuple y) (λ r. want (sign s.CloseParen) λ _. k r) x ts ∙ ap (λ z. on kind x ts z (λ r. want (sign s.CloseParen) λ _. k r)) (if_false _ _ _ h ∙ if_false _ _ _ g);
+}
 
 -- ---- results
 

@@ -46,11 +46,7 @@ pub(crate) fn outcome(
 }
 
 /// A type.
-pub(crate) fn a_type(
-    alloc: Global,
-    depth: u32,
-    cursor: &mut Cursor<'_>,
-) -> Result<TypeExpr, Stop>
+pub(crate) fn a_type(alloc: Global, depth: u32, cursor: &mut Cursor<'_>) -> Result<TypeExpr, Stop>
     ensures { ReadsPart 1 Item.a_type (λ v. v) cursor.old result cursor.new }
 {
     let mut height = 0;

@@ -204,11 +204,7 @@ fn closed(cursor: &Cursor<'_>) -> Result<Join, Stop>
 }
 
 /// The rest of a dotted name.
-pub(crate) fn dotted(
-    alloc: Global,
-    cursor: &mut Cursor<'_>,
-    first: Name,
-) -> Result<TypeExpr, Stop>
+pub(crate) fn dotted(alloc: Global, cursor: &mut Cursor<'_>, first: Name) -> Result<TypeExpr, Stop>
     ensures { Gets 0 (rest_of_name first) cursor.old result cursor.new }
 {
     let Name { pos, text } = first;
@@ -380,11 +376,7 @@ pub(crate) fn map_type(
 ) -> Result<TypeExpr, NoMemory>
     ensures { IfOk result (λ v. v ≡ t.Map pos key value) }
 {
-    Ok(TypeExpr::Map(
-        pos,
-        Boxed::new(alloc, key)?,
-        Boxed::new(alloc, value)?,
-    ))
+    Ok(TypeExpr::Map(pos, Boxed::new(alloc, key)?, Boxed::new(alloc, value)?))
 }
 
 /// The results that are one type without parentheses.
@@ -400,7 +392,11 @@ pub(crate) fn single(alloc: Global, ty: TypeExpr) -> Result<TypeResults, NoMemor
 }
 
 /// Two types in a row.
-pub(crate) fn pair(alloc: Global, first: TypeExpr, second: TypeExpr) -> Result<List<TypeExpr>, NoMemory>
+pub(crate) fn pair(
+    alloc: Global,
+    first: TypeExpr,
+    second: TypeExpr,
+) -> Result<List<TypeExpr>, NoMemory>
     ensures { IfOk result (λ v. v ≡ first ∷ second ∷ []) }
 {
     let mut types = List::new(alloc);
@@ -418,7 +414,10 @@ pub(crate) fn field_or_other(
     ensures { ReadsNamed name cursor.old result cursor.new }
 {
     if cursor.eat(Symbol::Colon) {
-        return Ok(Named::Field(FieldName { is_const: false, name }));
+        return Ok(Named::Field(FieldName {
+            is_const: false,
+            name,
+        }));
     }
     if !is_const(&name) {
         return Ok(Named::Other(name));
@@ -426,7 +425,10 @@ pub(crate) fn field_or_other(
     match maybe_name(alloc, cursor)? {
         Some(second) => {
             cursor.want(Symbol::Colon)?;
-            Ok(Named::Field(FieldName { is_const: true, name: second }))
+            Ok(Named::Field(FieldName {
+                is_const: true,
+                name: second,
+            }))
         }
         None => Ok(Named::Other(name)),
     }
@@ -454,10 +456,7 @@ pub(crate) fn field_name(
 }
 
 /// Reads on behind a field of a record: the next one up to its type, or the record's end.
-pub(crate) fn next_field(
-    alloc: Global,
-    cursor: &mut Cursor<'_>,
-) -> Result<Option<FieldName>, Stop>
+pub(crate) fn next_field(alloc: Global, cursor: &mut Cursor<'_>) -> Result<Option<FieldName>, Stop>
     ensures { Turns (λ v. 1) (read Item.more_of_fields) next_of_fields cursor.old result cursor.new }
 {
     if !cursor.eat(Symbol::Comma) {

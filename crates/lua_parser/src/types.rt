@@ -5,9 +5,9 @@ ghost use Rattle.lua_parser.specs.TypeReadings.{Turns, Gets, ReadsPart, after_of
 
 use crate::cursor::{Cursor, Stop};
 use crate::type_parts::{
-    After, FieldName, Items, Join, Member, Named, Nest, Returned, array, closes, dotted,
-    field_of, field_or_other, function, joins, literal, map_type, marked, maybe_name, meets,
-    next_field, pair, parenthesised, place, single, tuple_of,
+    After, FieldName, Items, Join, Member, Named, Nest, Returned, array, closes, dotted, field_of,
+    field_or_other, function, joins, literal, map_type, marked, maybe_name, meets, next_field,
+    pair, parenthesised, place, single, tuple_of,
 };
 use lua_lexer::Symbol;
 use lua_tree::{Name, TypeExpr, TypeField, TypeResults, TypeTuple};
