@@ -15,6 +15,7 @@ use Rattle.lua_tree.specs.declared.annotation.TypeTuple.{TypeTuple}
 use Rattle.lua_tree.specs.declared.annotation.TypeResults.{TypeResults}
 use Rattle.lua_tree.specs.declared.syntax.Block.{Block}
 use Rattle.lua_lexer.specs.declared.token.Keyword.TheVariants as w
+use Rattle.lua_lexer.specs.declared.token.Symbol.{Symbol}
 use Rattle.lua_lexer.specs.declared.token.Symbol.TheVariants as s
 use Rattle.lua_parser.specs.declared.cursor.Stop.{Stop}
 use Rattle.lua_parser.specs.declared.type_parts.Items.{Items}
@@ -28,8 +29,8 @@ use Rattle.lua_parser.specs.Grammar.Types.{Ending, place, InItself, InTuple, InT
 use Rattle.lua_parser.specs.Machine.Plan.{After, ended, joined, Item, Gives, Plan, done, want, want_name, read, Reply, stuck, ends, takes}
 use Rattle.lua_parser.specs.Machine.Steps.{is_typed, if_name, if_number, if_text, is_text, paren_step, mark_number, is_mark, is_sign, union_of, tuple_then, single_result, start_plain, start_type, going, begun}
 use Rattle.lua_parser.specs.Machine.Run.{run}
-use Rattle.lua_parser.specs.Outcomes.{head_is, head_pos, head_name, head_number, head_text, Eats, Takes, TakesName, EatsText}
-use Rattle.lua_parser.specs.TypeReadings.{ReadsIn, end_of_array, Encloses, ReadsNamed, rest_of_name, type_of_field, Leads, Fails, Turns, Meets, NoBar, joined_by, item_behind, rest_of_map, fields_behind}
+use Rattle.lua_parser.specs.Outcomes.{is_atom, head_atom, head_is, head_pos, head_name, head_number, head_text, Eats, Takes, TakesName, EatsText}
+use Rattle.lua_parser.specs.TypeReadings.{NoType, Refuses, ReadsIn, end_of_array, Encloses, ReadsNamed, rest_of_name, type_of_field, Leads, Fails, Turns, Meets, NoBar, joined_by, item_behind, rest_of_map, fields_behind}
 use Rattle.lua_parser.proofs.Completeness.Plans.{want_on, after, run_takes, if_true, on, read_on, if_false, on_going, begins_as}
 use Rattle.lua_parser.proofs.Completeness.Firsts.{after_name}
 use Rattle.lua_parser.proofs.Completeness.Types.{named_unfold, type_unfold, tuple_unfold, results_unfold, body_results_unfold, mark_ends, name_ends, union_ends, results_end, bar_ends, body_results_end, paren_ends}
@@ -843,3 +844,56 @@ outcome_reads kind old mid new v h f = let a = f.taken in (let b = ap length h.2
 
 pub outcome_fails : (kind : ModuleKind) (old mid new : Words) (e : Stop) → (p : Pos) × (is_typed kind ≡ true) × (old ≡ marked (sign s.Colon) p ∷ mid) → Fails (read Item.body_results) mid e new → ReadsIn kind Item.outcome old (Err e) new
 outcome_fails kind old mid new e h f = λ d k. ap (run kind (read Item.outcome k)) h.2 ∙ outcome_goes kind h.0 mid k h.1 ∙ f.stops d kind (λ x. k (Some x))
+
+-- ---- one construct too many
+
+abbrev pub then_item : (List TypeExpr × Option TypeExpr → P) → TypeExpr → P
+then_item k y = item_behind y k
+
+abbrev pub one_tuple : Pos → (TypeResults × After → P) → List TypeExpr × Option TypeExpr → P
+one_tuple p k a = read Item.more_results λ r. k (results p (tuple a.0 a.1 ∷ r.0), r.1)
+
+abbrev pub one_body : Pos → (TypeResults → P) → List TypeExpr × Option TypeExpr → P
+one_body p k a = read Item.more_body_results λ r. k (results p (tuple a.0 a.1 ∷ r))
+
+no_atom_number : (x : WordKind) → is_atom x ≡ false → if_number x (λ n. Some n) None ≡ None
+no_atom_number (mark m) h = refl
+no_atom_number (WordKind.name n) h = cc
+no_atom_number (WordKind.number n) h = cc
+no_atom_number (WordKind.text n) h = cc
+
+no_atom_text : (x : WordKind) → is_atom x ≡ false → if_text x (λ n. Some n) None ≡ None
+no_atom_text (mark m) h = refl
+no_atom_text (WordKind.name n) h = cc
+no_atom_text (WordKind.number n) h = cc
+no_atom_text (WordKind.text n) h = cc
+
+no_atom_name : (x : WordKind) → is_atom x ≡ false → if_name x (λ n. Some n) None ≡ None
+no_atom_name (mark m) h = refl
+no_atom_name (WordKind.name n) h = cc
+no_atom_name (WordKind.number n) h = cc
+no_atom_name (WordKind.text n) h = cc
+
+no_name_there : (ts : Words) → head_atom ts ≡ false → head_name ts ≡ None
+no_name_there [] h = refl
+no_name_there (x ∷ ts) h = no_atom_name x.kind h
+
+no_literal : (ts : Words) → NoType ts → NoLiteral ts
+no_literal [] h = record { no_brace = refl; no_nil = refl; no_true = refl; no_false = refl; no_minus = refl; no_int = refl; no_text = refl; no_name = refl }
+no_literal (x ∷ ts) h = record { no_brace = h.no_brace; no_nil = h.no_nil; no_true = h.no_true; no_false = h.no_false; no_minus = h.no_minus; no_int = no_atom_number x.kind h.no_atom; no_text = no_atom_text x.kind h.no_atom; no_name = no_atom_name x.kind h.no_atom }
+
+type_fails : (ts : Words) (e : Stop) → NoType ts → Fails (read Item.a_type) ts e ts
+type_fails ts e h = fails_in unioned (type_leads ts) (fails_in in_itself (member_leads ts h.no_paren) (fails_here refl (literal_fails ts (no_literal ts h))))
+
+-- a failure of this kind, if it is one
+if_unexpected : {G : Type 0} (from : (G → P) → P) (old new : Words) (e : Stop) → (e ≡ stop.Unexpected → Fails from old e new) → Fails from old e new
+if_unexpected from old new e f = record { stops = λ d kind k. (f d).stops d kind k }
+
+pub tuple_fails : (ts : Words) (b : Symbol) (e : Stop) → Refuses s.CloseParen b ts e → Fails tuple_then ts e ts
+tuple_fails ts b e h = if_unexpected tuple_then ts ts e (λ d. fails_in then_item (types_lead ts (h d).1) (type_fails ts e (h d).0))
+
+pub braces_fails : (o : Pos) (ts : Words) (e : Stop) → Refuses s.CloseBrace s.OpenBracket ts e → Fails (read (Item.in_braces o)) ts e ts
+braces_fails o ts e h = if_unexpected (read (Item.in_braces o)) ts ts e (λ d. let g = h d in fails_in (then_array o) (array_leads o ts g.1 g.2 (no_name_there ts g.0.no_atom)) (type_fails ts e g.0))
+
+pub map_fails : (o : Pos) (ts : Words) (a b : Symbol) (e : Stop) → Refuses a b ts e → Fails (rest_of_map o) ts e ts
+map_fails o ts a b e h = if_unexpected (rest_of_map o) ts ts e (λ d. fails_in (map_key o) (leads_same (rest_of_map o) ts) (type_fails ts e (h d).0))

@@ -9,6 +9,8 @@ use Rattle.lua_tree.specs.declared.annotation.TypeField.{TypeField}
 use Rattle.lua_tree.specs.declared.annotation.TypeTuple.{TypeTuple}
 use Rattle.lua_tree.specs.declared.annotation.TypeResults.{TypeResults}
 use Rattle.lua_tree.specs.declared.syntax.Block.{Block}
+use Rattle.lua_lexer.specs.declared.token.Keyword.TheVariants as w
+use Rattle.lua_lexer.specs.declared.token.Symbol.{Symbol}
 use Rattle.lua_lexer.specs.declared.token.Symbol.TheVariants as s
 use Rattle.lua_parser.specs.declared.cursor.Stop.{Stop}
 use Rattle.lua_parser.specs.declared.cursor.Stop.TheVariants as stop
@@ -22,12 +24,12 @@ use Rattle.lua_parser.specs.declared.type_parts.Named.{Named}
 use Rattle.lua_parser.specs.declared.type_parts.Named.TheVariants as named_part
 use Rattle.lua_parser.specs.declared.type_parts.Join.{Join}
 use Rattle.lua_parser.specs.declared.type_parts.Join.TheVariants as join
-use Rattle.lua_parser.specs.Words.{WordKind, Mark, Words, marked, named, sign}
+use Rattle.lua_parser.specs.Words.{WordKind, Mark, Words, marked, named, key, sign}
 use Rattle.lua_parser.specs.Grammar.Types.{InItself, InTuple, InType, field, tuple, results}
 use Rattle.lua_parser.specs.Machine.Plan.{After, ended, joined, Item, Gives, Plan, done, want, read, Reply, stuck}
 use Rattle.lua_parser.specs.Machine.Steps.{is_typed, union_of, paren_step, tuple_then, is_text}
 use Rattle.lua_parser.specs.Machine.Run.{run}
-use Rattle.lua_parser.specs.Outcomes.{head_is, head_name}
+use Rattle.lua_parser.specs.Outcomes.{head_is, head_name, head_atom}
 
 -- At least so many words are taken, and the reading goes on from one plan to another, whatever follows them in modules of either kind.
 pub record Leads {G : Type 0} (n : ℕ) (from : (G → Plan Block) → Plan Block) (old : Words) (to : (G → Plan Block) → Plan Block) (new : Words) : Type 0 where
@@ -61,6 +63,20 @@ abbrev pub MeetsColon : ModuleKind → Words → Result Bool Stop → Words → 
 MeetsColon kind old (Ok true) new = (p : Pos) × (is_typed kind ≡ true) × (old ≡ marked (sign s.Colon) p ∷ new)
 MeetsColon kind old (Ok false) new = (new ≡ old) × ((is_typed kind && head_is (sign s.Colon) old) ≡ false) × (old ≡ [] → ⊥)
 MeetsColon kind old (Err e) new = (e ≡ stop.Unexpected) × (new ≡ old) × (old ≡ [])
+
+-- No type begins with the first word.
+pub record NoType (ts : Words) : Type 0 where
+  pub no_atom : head_atom ts ≡ false
+  pub no_nil : head_is (key w.Nil) ts ≡ false
+  pub no_true : head_is (key w.True) ts ≡ false
+  pub no_false : head_is (key w.False) ts ≡ false
+  pub no_minus : head_is (sign s.Minus) ts ≡ false
+  pub no_brace : head_is (sign s.OpenBrace) ts ≡ false
+  pub no_paren : head_is (sign s.OpenParen) ts ≡ false
+
+-- Why no further construct is begun: too many are open, unless neither a type nor one of these symbols follows.
+abbrev pub Refuses : Symbol → Symbol → Words → Stop → Type 0
+Refuses a b ts e = e ≡ stop.Unexpected → NoType ts × (head_is (sign a) ts ≡ false) × (head_is (sign b) ts ≡ false)
 
 -- A step that takes no word: it fails for another reason than the words.
 abbrev pub Stays : Words → Result (Unit {0}) Stop → Words → Type 0

@@ -108,7 +108,7 @@ fn body_results(alloc: Global, depth: u32, cursor: &mut Cursor<'_>) -> Result<Ty
         let ty = a_type(alloc, depth, cursor)?;
         return Ok(single(alloc, ty)?);
     }
-    let inside = Nest { depth, chain: 0 }.inside()?;
+    let inside = Nest { depth, chain: 0 }.inside(cursor, Symbol::CloseParen, Symbol::CloseParen)?;
     let mut tuples = List::new(alloc);
     loop {
         let types = tuple(alloc, inside, cursor, &mut height)?;

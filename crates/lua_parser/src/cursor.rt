@@ -1,7 +1,7 @@
 ghost use Rattle.std.specs.Prelude.{◌≡◌, ◌<◌, [], ◌∷◌, ◌↔◌, IsTrue, length, drop};
 ghost use Rattle.lua_parser.specs.Words.{Words, words_of, sign, key, mark, slice_of};
 ghost use Rattle.lua_parser.specs.Machine.Steps.{binary_at};
-ghost use Rattle.lua_parser.specs.Outcomes.{head_is, head_pos, head_number, head_unary, head_binary, Eats, Takes, EatsText, TakesName};
+ghost use Rattle.lua_parser.specs.Outcomes.{head_atom, head_is, head_pos, head_number, head_unary, head_binary, Eats, Takes, EatsText, TakesName};
 
 use lua_lexer::{Keyword, Symbol, Token, TokenKind};
 use lua_tree::{BinaryOperator, Name, UnaryOperator};
@@ -37,6 +37,8 @@ pub(crate) struct Cursor<'a> {
     rest: &'a [Token],
     /// The same from the token on that was taken last.
     last: &'a [Token],
+    /// The same from the token on that was taken before that one.
+    before: &'a [Token],
 }
 
 impl<'a> Model for Cursor<'a> {
@@ -53,6 +55,7 @@ impl<'a> Cursor<'a> {
             source,
             rest: tokens,
             last: tokens,
+            before: tokens,
         }
     }
 
@@ -63,9 +66,25 @@ impl<'a> Cursor<'a> {
         self.rest.is_empty()
     }
 
-    /// Gives back the token that was taken last, at which reading stops.
+    /// Gives back the token that was taken last, at which reading stops. It can be called twice in a row.
     pub(crate) fn back(&mut self) {
         self.rest = self.last;
+        self.last = self.before;
+    }
+
+    /// Whether the first token is a name, a numeral or a string.
+    pub(crate) fn at_atom(&self) -> bool
+        ensures { result ≡ head_atom self.now }
+    {
+        match self.rest.first() {
+            Some(token) => match &token.kind {
+                TokenKind::Name => true,
+                TokenKind::Int(_) => true,
+                TokenKind::Str(_) => true,
+                _ => false,
+            },
+            None => false,
+        }
     }
 
     /// The place of the first token.
@@ -157,6 +176,7 @@ impl<'a> Cursor<'a> {
         requires { 0 < length self.old }
         ensures { self.new ≡ drop 1 self.old }
     {
+        self.before = self.last;
         self.last = self.rest;
         self.rest = &self.rest[1..];
     }

@@ -10,7 +10,7 @@ ghost use Rattle.lua_parser.specs.Grammar.Types.{place, tuple, results, field};
 ghost use Rattle.lua_parser.specs.Machine.Plan.{Item, read};
 ghost use Rattle.lua_parser.specs.Machine.Steps.{is_text, single_result};
 ghost use Rattle.lua_parser.specs.Outcomes.{head_is};
-ghost use Rattle.lua_parser.specs.TypeReadings.{member_of, after_of, joined_by, Turns, Gets, ReadsPart, Stays, Meets, NoBar, EatsName, rest_of_name, end_of_array, next_of_fields, type_of_field, Encloses, Builds, ReadsNamed};
+ghost use Rattle.lua_parser.specs.TypeReadings.{NoType, Refuses, member_of, after_of, joined_by, Turns, Gets, ReadsPart, Stays, Meets, NoBar, EatsName, rest_of_name, end_of_array, next_of_fields, type_of_field, Encloses, Builds, ReadsNamed};
 
 use crate::cursor::{Cursor, Stop};
 use lua_lexer::{Keyword, Symbol};
@@ -38,12 +38,17 @@ pub(crate) struct Nest {
 }
 
 impl Nest {
-    /// Inside one more construct.
-    pub(crate) fn inside(self) -> Result<Nest, Stop>
-        ensures { IfErr result (λ e. e ≡ stop.Deep) }
+    /// Inside one more construct, which goes on with a type or one of these symbols.
+    pub(crate) fn inside(
+        self,
+        cursor: &Cursor<'_>,
+        symbol: Symbol,
+        other: Symbol,
+    ) -> Result<Nest, Stop>
+        ensures { IfErr result (Refuses symbol other cursor.now) }
     {
         if self.depth >= DEEPEST {
-            return Err(Stop::Deep);
+            return Err(refusal(cursor, symbol, other));
         }
         Ok(Nest {
             depth: self.depth + 1,
@@ -63,6 +68,50 @@ impl Nest {
             chain: self.chain + 1,
         })
     }
+}
+
+/// Why no further construct is begun: no spelling goes on, or the first token is too deep.
+fn refusal(cursor: &Cursor<'_>, symbol: Symbol, other: Symbol) -> Stop
+    ensures { Refuses symbol other cursor.now result }
+{
+    if cursor.at(symbol) {
+        return Stop::Deep;
+    }
+    if cursor.at(other) {
+        return Stop::Deep;
+    }
+    if begins_type(cursor) {
+        return Stop::Deep;
+    }
+    Stop::Unexpected
+}
+
+/// Whether a type begins at the first token.
+fn begins_type(cursor: &Cursor<'_>) -> bool
+    ensures { result ≡ false → NoType cursor.now }
+{
+    if cursor.at_atom() {
+        return true;
+    }
+    if cursor.at_word(Keyword::Nil) {
+        return true;
+    }
+    if cursor.at_word(Keyword::True) {
+        return true;
+    }
+    if cursor.at_word(Keyword::False) {
+        return true;
+    }
+    if cursor.at(Symbol::Minus) {
+        return true;
+    }
+    if cursor.at(Symbol::OpenBrace) {
+        return true;
+    }
+    if cursor.at(Symbol::OpenParen) {
+        return true;
+    }
+    false
 }
 
 /// How a member of a union ended: in itself, or as a function type in a tuple of its results or in results that are a type.
@@ -201,6 +250,27 @@ fn closed(cursor: &Cursor<'_>) -> Result<Join, Stop>
         return Err(Stop::Unexpected);
     }
     Ok(Join::Over)
+}
+
+/// Notes that a function type ends whose highest part has this height. Of one that is too high the last token is left,
+/// which stands before a `|` if that is taken already.
+pub(crate) fn ends_function(
+    cursor: &mut Cursor<'_>,
+    height: &mut u32,
+    inner: u32,
+    after: After,
+) -> Result<(), Stop>
+    ensures { Stays cursor.old result cursor.new }
+{
+    if inner >= HIGHEST {
+        cursor.back();
+        if after == After::Joined {
+            cursor.back();
+        }
+        return Err(Stop::Deep);
+    }
+    *height = max(*height, inner + 1);
+    Ok(())
 }
 
 /// The rest of a dotted name.

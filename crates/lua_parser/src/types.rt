@@ -5,9 +5,9 @@ ghost use Rattle.lua_parser.specs.TypeReadings.{Turns, Gets, ReadsPart, after_of
 
 use crate::cursor::{Cursor, Stop};
 use crate::type_parts::{
-    After, FieldName, Items, Join, Member, Named, Nest, Returned, array, closes, dotted, field_of,
-    field_or_other, function, joins, literal, map_type, marked, maybe_name, meets, next_field,
-    pair, parenthesised, place, single, tuple_of,
+    After, FieldName, Items, Join, Member, Named, Nest, Returned, array, closes, dotted,
+    ends_function, field_of, field_or_other, function, joins, literal, map_type, marked,
+    maybe_name, meets, next_field, pair, parenthesised, place, single, tuple_of,
 };
 use lua_lexer::Symbol;
 use lua_tree::{Name, TypeExpr, TypeField, TypeResults, TypeTuple};
@@ -148,12 +148,17 @@ fn behind_paren(
     ensures { Turns (λ v. 1) (behind_paren pos) (λ v k. k (member_of v)) cursor.old result cursor.new }
 {
     let mut inner = 0;
-    let inside = tuple(alloc, nest.inside()?, cursor, &mut inner)?;
+    let inside = tuple(
+        alloc,
+        nest.inside(cursor, Symbol::CloseParen, Symbol::CloseParen)?,
+        cursor,
+        &mut inner,
+    )?;
     if !meets(cursor, Symbol::Arrow)? {
         return parenthesised(alloc, cursor, pos, inside, height, inner);
     }
     let returned = results(alloc, nest, cursor, &mut inner)?;
-    closes(cursor, height, inner)?;
+    ends_function(cursor, height, inner, returned.after)?;
     Ok(function(pos, inside, returned))
 }
 
@@ -204,7 +209,7 @@ fn results(
             after: After::InType,
         });
     }
-    let inside = nest.inside()?;
+    let inside = nest.inside(cursor, Symbol::CloseParen, Symbol::CloseParen)?;
     let mut tuples = List::new(alloc);
     loop {
         let types = tuple(alloc, inside, cursor, height)?;
@@ -235,7 +240,7 @@ fn braces(
 ) -> Result<TypeExpr, Stop>
     ensures { ReadsPart 1 (Item.in_braces pos) (λ v. v) cursor.old result cursor.new }
 {
-    let inside = nest.inside()?;
+    let inside = nest.inside(cursor, Symbol::CloseBrace, Symbol::OpenBracket)?;
     if cursor.eat(Symbol::CloseBrace) {
         return Ok(TypeExpr::Record(pos, List::new(alloc)));
     }
@@ -264,7 +269,12 @@ fn map(
     ensures { Gets 1 (rest_of_map pos) cursor.old result cursor.new }
 {
     let mut inner = 0;
-    let key = any_type(alloc, nest.inside()?, cursor, &mut inner)?;
+    let key = any_type(
+        alloc,
+        nest.inside(cursor, Symbol::OpenBrace, Symbol::OpenBrace)?,
+        cursor,
+        &mut inner,
+    )?;
     cursor.want(Symbol::CloseBracket)?;
     cursor.want(Symbol::Colon)?;
     let value = any_type(alloc, nest, cursor, &mut inner)?;
