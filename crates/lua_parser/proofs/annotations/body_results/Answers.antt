@@ -25,7 +25,7 @@ pub returns-then-not-eat : goal.returns-then-not-eat
 returns-then-not-eat c = steps.gives (steps.leads_part steps.only_result (let h = c.if-not-eat.ensures in steps.stayed h.0 (steps.body_result_leads _ h.1)) c.in_ok-ty.ensures) (sym c.in_ok-single.ensures)
 
 pub returns-in_err-inside : goal.returns-in_err-inside
-returns-in_err-inside c = let p = err_from_is_err_and c.from_residual-in_err-inside.result c.from_residual-in_err-inside.ensures.1 in rw (p.1, p.2) (let h = c.if-not-eat.ensures in steps.fails_in (steps.one_body c.pos-pos.result) (steps.at_head (sign s.OpenParen) (read Item.body_results) steps.first_body steps.body_results_lead _ _ _ h.0 c.pos-pos.ensures h.1) (steps.tuple_fails _ _ _ c.in_err-inside.ensures))
+returns-in_err-inside c = let p = err_from_is_err_and c.from_residual-in_err-inside.result c.from_residual-in_err-inside.ensures.1 in rw (p.1, p.2) (let h = c.if-not-eat.ensures in steps.fails_in (steps.one_body c.pos-pos.result) (steps.at_head (sign s.OpenParen) (read Item.body_results) steps.first_body steps.body_results_lead _ _ _ h.0 c.pos-pos.ensures h.1) (steps.tuple_fails _ s.CloseParen _ c.in_err-inside.ensures))
 
 pub loop-tuples-init : goal.loop-tuples-init
 loop-tuples-init c = let h = c.if-not-eat.ensures in steps.bodies_begin c.pos-pos.result _ c.new-tuples.ensures (steps.at_head (sign s.OpenParen) (read Item.body_results) steps.first_body steps.body_results_lead _ _ _ h.0 c.pos-pos.ensures h.1)

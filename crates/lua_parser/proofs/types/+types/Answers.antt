@@ -95,7 +95,7 @@ pub plain-returns : goal.plain-returns
 plain-returns bound c = steps.leads_less 1 (steps.leads_on (steps.leads_on (let h = c.if-eat.ensures in steps.stayed h.0 (steps.leads_same (read Item.a_plain_member) _)) (c.in_ok-simple.ensures (steps.still (sign s.OpenBrace) _ _ c.if-eat.ensures.0 c.if-eat.ensures.1))) c.in_ok-ty-2.ensures) (omega arith)
 
 pub behind_paren-returns-in_err-inside : goal.behind_paren-returns-in_err-inside
-behind_paren-returns-in_err-inside bound c = let p = err_from_is_err_and c.from_residual.result c.from_residual.ensures.1 in rw (p.1, p.2) (steps.fails_in (steps.then_behind c.args.pos) (steps.leads_same (behind_paren c.args.pos) _) (steps.tuple_fails _ _ _ c.in_err-inside.ensures))
+behind_paren-returns-in_err-inside bound c = let p = err_from_is_err_and c.from_residual.result c.from_residual.ensures.1 in rw (p.1, p.2) (steps.fails_in (steps.then_behind c.args.pos) (steps.leads_same (behind_paren c.args.pos) _) (steps.tuple_fails _ s.CloseParen _ c.in_err-inside.ensures))
 
 pub behind_paren-returns-in_err-inside-2 : goal.behind_paren-returns-in_err-inside-2
 behind_paren-returns-in_err-inside-2 bound c = let p = err_from_is_err_and c.from_residual-in_err-inside-2.result c.from_residual-in_err-inside-2.ensures.1 in rw (p.1, p.2) (steps.fails_in (steps.then_behind c.args.pos) (steps.leads_same (behind_paren c.args.pos) _) c.in_err-inside-2.ensures)
@@ -158,7 +158,7 @@ pub results-returns-then-not-eat : goal.results-returns-then-not-eat
 results-returns-then-not-eat bound c = steps.gives (steps.leads_part steps.as_single (let h = c.if-not-eat.ensures in steps.stayed h.0 (steps.result_leads _ h.1)) c.in_ok-ty.ensures) (steps.single_is _ _ c.in_ok-single.ensures)
 
 pub results-returns-in_err-inside : goal.results-returns-in_err-inside
-results-returns-in_err-inside bound c = let p = err_from_is_err_and c.from_residual-in_err-inside.result c.from_residual-in_err-inside.ensures.1 in rw (p.1, p.2) (let h = c.if-not-eat.ensures in steps.fails_in (steps.one_tuple c.pos-pos.result) (steps.at_head (sign s.OpenParen) (read Item.some_results) steps.first_tuple steps.results_lead _ _ _ h.0 c.pos-pos.ensures h.1) (steps.tuple_fails _ _ _ c.in_err-inside.ensures))
+results-returns-in_err-inside bound c = let p = err_from_is_err_and c.from_residual-in_err-inside.result c.from_residual-in_err-inside.ensures.1 in rw (p.1, p.2) (let h = c.if-not-eat.ensures in steps.fails_in (steps.one_tuple c.pos-pos.result) (steps.at_head (sign s.OpenParen) (read Item.some_results) steps.first_tuple steps.results_lead _ _ _ h.0 c.pos-pos.ensures h.1) (steps.tuple_fails _ s.CloseParen _ c.in_err-inside.ensures))
 
 pub results-loop-tuples-init : goal.results-loop-tuples-init
 results-loop-tuples-init bound c = let h = c.if-not-eat.ensures in steps.tuples_begin c.pos-pos.result _ c.new-tuples.ensures (steps.at_head (sign s.OpenParen) (read Item.some_results) steps.first_tuple steps.results_lead _ _ _ h.0 c.pos-pos.ensures h.1)
@@ -206,7 +206,7 @@ pub braces-returns-in_ok-ty-in-None : goal.braces-returns-in_ok-ty-in-None
 braces-returns-in_ok-ty-in-None bound c = steps.turns_on (λ v. 1) (λ v. 1) (read (Item.in_braces c.args.pos)) (end_of_array c.args.pos c.in_ok-ty-in-None.ty) (λ v k. k v) _ _ _ c.array.result (steps.leads_part (steps.then_array c.args.pos) (let n = rw c.in-None.is at c.in_ok-name.ensures in steps.stayed (n.0 ∙ c.if-eat-2.ensures.0 ∙ c.if-eat.ensures.0) (steps.array_leads c.args.pos _ c.if-eat.ensures.1 (ap (head_is (sign s.OpenBracket)) (sym c.if-eat.ensures.0) ∙ c.if-eat-2.ensures.1) (ap head_name (sym (c.if-eat-2.ensures.0 ∙ c.if-eat.ensures.0)) ∙ n.1))) c.in_ok-ty-in-None.ensures) (λ v. omega arith) c.array.ensures
 
 pub map-returns-in_err-inside : goal.map-returns-in_err-inside
-map-returns-in_err-inside bound c = let p = err_from_is_err_and c.from_residual.result c.from_residual.ensures.1 in rw (p.1, p.2) (steps.map_fails c.args.pos _ _ _ _ c.in_err-inside.ensures)
+map-returns-in_err-inside bound c = let p = err_from_is_err_and c.from_residual.result c.from_residual.ensures.1 in rw (p.1, p.2) (steps.map_fails c.args.pos _ s.OpenBrace s.OpenBrace _ c.in_err-inside.ensures)
 
 pub map-returns-in_err-key : goal.map-returns-in_err-key
 map-returns-in_err-key bound c = let p = err_from_is_err_and c.from_residual-in_err-key.result c.from_residual-in_err-key.ensures.1 in rw (p.1, p.2) (steps.fails_in (steps.map_key c.args.pos) (steps.leads_same (rest_of_map c.args.pos) _) c.in_err-key.ensures)
