@@ -4,3 +4,4 @@ pub mod Viability
 pub mod Completeness
 pub mod Laws
 pub mod Heads
+pub mod TypeSteps

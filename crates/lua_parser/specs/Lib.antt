@@ -3,3 +3,4 @@ pub mod Grammar
 pub mod Machine
 pub mod Outcomes
 pub mod Readings
+pub mod TypeReadings

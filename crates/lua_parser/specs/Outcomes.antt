@@ -6,7 +6,7 @@ use Rattle.lua_tree.specs.declared.syntax.UnaryOperator.{UnaryOperator}
 use Rattle.lua_tree.specs.declared.syntax.BinaryOperator.{BinaryOperator}
 use Rattle.lua_parser.specs.declared.cursor.Stop.{Stop}
 use Rattle.lua_parser.specs.declared.cursor.Stop.TheVariants as stop
-use Rattle.lua_parser.specs.Words.{Words, Mark, marked, named, quoted}
+use Rattle.lua_parser.specs.Words.{Words, WordKind, Mark, marked, named, quoted}
 use Rattle.lua_parser.specs.Machine.Steps.{is_mark, if_name, if_number, if_text, unary_at, binary_at}
 
 -- whether the first word is this mark
@@ -30,6 +30,15 @@ head_name (x ∷ ts) = if_name x.kind (λ n. Some n) None
 abbrev pub head_text : Words → Option (List ℕ)
 head_text [] = None
 head_text (x ∷ ts) = if_text x.kind (λ n. Some n) None
+
+-- whether the first word is a name, a numeral or a string
+abbrev pub is_atom : WordKind → Bool
+is_atom (WordKind.mark m) = false
+is_atom k = true
+
+abbrev pub head_atom : Words → Bool
+head_atom [] = false
+head_atom (x ∷ ts) = is_atom x.kind
 
 abbrev pub head_unary : Words → Option UnaryOperator
 head_unary [] = None

@@ -1,7 +1,7 @@
-ghost use Rattle.std.specs.Prelude.{◌≡◌, ◌<◌, ◌∷◌, length, drop};
+ghost use Rattle.std.specs.Prelude.{◌≡◌, ◌<◌, [], ◌∷◌, ◌↔◌, IsTrue, length, drop};
 ghost use Rattle.lua_parser.specs.Words.{Words, words_of, sign, key, mark, slice_of};
 ghost use Rattle.lua_parser.specs.Machine.Steps.{binary_at};
-ghost use Rattle.lua_parser.specs.Outcomes.{head_is, head_pos, head_number, head_unary, head_binary, Eats, Takes, EatsText, TakesName};
+ghost use Rattle.lua_parser.specs.Outcomes.{head_atom, head_is, head_pos, head_number, head_unary, head_binary, Eats, Takes, EatsText, TakesName};
 
 use lua_lexer::{Keyword, Symbol, Token, TokenKind};
 use lua_tree::{BinaryOperator, Name, UnaryOperator};
@@ -35,6 +35,10 @@ impl From<NoMemory> for Stop {
 pub(crate) struct Cursor<'a> {
     source: &'a [u8],
     rest: &'a [Token],
+    /// The same from the token on that was taken last.
+    last: &'a [Token],
+    /// The same from the token on that was taken before that one.
+    before: &'a [Token],
 }
 
 impl<'a> Model for Cursor<'a> {
@@ -50,6 +54,36 @@ impl<'a> Cursor<'a> {
         Cursor {
             source,
             rest: tokens,
+            last: tokens,
+            before: tokens,
+        }
+    }
+
+    /// Whether no token is left.
+    pub(crate) fn is_over(&self) -> bool
+        ensures { IsTrue result ↔ (self.now ≡ []) }
+    {
+        self.rest.is_empty()
+    }
+
+    /// Gives back the token that was taken last, at which reading stops. It can be called twice in a row.
+    pub(crate) fn back(&mut self) {
+        self.rest = self.last;
+        self.last = self.before;
+    }
+
+    /// Whether the first token is a name, a numeral or a string.
+    pub(crate) fn at_atom(&self) -> bool
+        ensures { result ≡ head_atom self.now }
+    {
+        match self.rest.first() {
+            Some(token) => match &token.kind {
+                TokenKind::Name => true,
+                TokenKind::Int(_) => true,
+                TokenKind::Str(_) => true,
+                _ => false,
+            },
+            None => false,
         }
     }
 
@@ -142,6 +176,8 @@ impl<'a> Cursor<'a> {
         requires { 0 < length self.old }
         ensures { self.new ≡ drop 1 self.old }
     {
+        self.before = self.last;
+        self.last = self.rest;
         self.rest = &self.rest[1..];
     }
 

@@ -1,11 +1,14 @@
 //! The grammar of Lua with optional types, and the reading of a module's tree.
 #![tactic(auto)]
 
+mod annotations;
 mod cursor;
 mod expressions;
 mod operators;
 mod reader;
 mod theorems;
+mod type_parts;
+mod types;
 
 pub use theorems::{
     at_most_one_fault, at_most_one_tree, no_fault_in_a_tree, one_code, tree_or_fault,

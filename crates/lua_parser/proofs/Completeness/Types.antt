@@ -42,48 +42,48 @@ after_no_name (WordKind.text n) f a h = refl
 
 module _ (kind : ModuleKind) where
   module _ {A : Type 0} where
-    type_unfold : (k : TypeExpr → Plan A) (us : Words) → run kind (read Item.a_type k) us ≡ run kind (read Item.a_member λ m. read (Item.more_of_union m.1) λ xs. k (union_of m.0 xs)) us
+    pub type_unfold : (k : TypeExpr → Plan A) (us : Words) → run kind (read Item.a_type k) us ≡ run kind (read Item.a_member λ m. read (Item.more_of_union m.1) λ xs. k (union_of m.0 xs)) us
     type_unfold k [] = refl
     type_unfold k (x ∷ us) = begins_as kind Item.a_type Item.a_member x us (start_member x.pos x.kind) (λ m. read (Item.more_of_union m.1) λ xs. done (union_of m.0 xs)) k refl refl
 
-    tuple_unfold : (k : List TypeExpr × Option TypeExpr → Plan A) (x : Word) (us : Words) → is_sign s.CloseParen x.kind ≡ false → run kind (read Item.a_tuple k) (x ∷ us) ≡ run kind (read Item.a_type λ y. read (Item.more_of_tuple y) k) (x ∷ us)
+    pub tuple_unfold : (k : List TypeExpr × Option TypeExpr → Plan A) (x : Word) (us : Words) → is_sign s.CloseParen x.kind ≡ false → run kind (read Item.a_tuple k) (x ∷ us) ≡ run kind (read Item.a_type λ y. read (Item.more_of_tuple y) k) (x ∷ us)
     tuple_unfold k x us h = begins_as kind Item.a_tuple Item.a_type x us (start_type x.pos x.kind) (λ y. read (Item.more_of_tuple y) done) k refl (if_false _ _ _ h)
 
-    results_unfold : (k : TypeResults × After → Plan A) (x : Word) (us : Words) → is_sign s.OpenParen x.kind ≡ false → run kind (read Item.some_results k) (x ∷ us) ≡ run kind (read Item.a_type λ y. k (single_result y, ended InType)) (x ∷ us)
+    pub results_unfold : (k : TypeResults × After → Plan A) (x : Word) (us : Words) → is_sign s.OpenParen x.kind ≡ false → run kind (read Item.some_results k) (x ∷ us) ≡ run kind (read Item.a_type λ y. k (single_result y, ended InType)) (x ∷ us)
     results_unfold k x us h = begins_as kind Item.some_results Item.a_type x us (start_type x.pos x.kind) (λ y. done (single_result y, ended InType)) k refl (if_false _ _ _ h)
 
-    body_results_unfold : (k : TypeResults → Plan A) (x : Word) (us : Words) → is_sign s.OpenParen x.kind ≡ false → run kind (read Item.body_results k) (x ∷ us) ≡ run kind (read Item.a_type λ y. k (single_result y)) (x ∷ us)
+    pub body_results_unfold : (k : TypeResults → Plan A) (x : Word) (us : Words) → is_sign s.OpenParen x.kind ≡ false → run kind (read Item.body_results k) (x ∷ us) ≡ run kind (read Item.a_type λ y. k (single_result y)) (x ∷ us)
     body_results_unfold k x us h = begins_as kind Item.body_results Item.a_type x us (start_type x.pos x.kind) (λ y. done (single_result y)) k refl (if_false _ _ _ h)
 
-    joined_unfold : (k : List TypeExpr → Plan A) (x : Word) (us : Words) → is_sign s.OpenParen x.kind ≡ false
+    pub joined_unfold : (k : List TypeExpr → Plan A) (x : Word) (us : Words) → is_sign s.OpenParen x.kind ≡ false
         → run kind (read (Item.more_of_union joined) k) (x ∷ us) ≡ run kind (read Item.a_member λ m. read (Item.more_of_union m.1) λ xs. k (m.0 ∷ xs)) (x ∷ us)
     joined_unfold k x us h =
         read_on kind (Item.more_of_union joined) k x us ∙ on_going kind x us (start_plain x.pos x.kind) (λ y. read (Item.more_of_union (ended InItself)) λ xs. done (y ∷ xs)) k
         ∙ sym (read_on kind Item.a_member (λ m. read (Item.more_of_union m.1) λ xs. k (m.0 ∷ xs)) x us ∙ ap (λ o. on kind x us (begun o) (λ m. read (Item.more_of_union m.1) λ xs. k (m.0 ∷ xs))) (if_false _ _ (going (start_plain x.pos x.kind) (λ y. done (y, ended InItself))) h)
         ∙ on_going kind x us (start_plain x.pos x.kind) (λ y. done (y, ended InItself)) (λ m. read (Item.more_of_union m.1) λ xs. k (m.0 ∷ xs)))
 
-    mark_ends : (x : TypeExpr) (k : TypeExpr → Plan A) (y : Word) (us : Words) → is_sign s.Question y.kind ≡ false → run kind (read (Item.maybe_mark x) k) (y ∷ us) ≡ run kind (k x) (y ∷ us)
+    pub mark_ends : (x : TypeExpr) (k : TypeExpr → Plan A) (y : Word) (us : Words) → is_sign s.Question y.kind ≡ false → run kind (read (Item.maybe_mark x) k) (y ∷ us) ≡ run kind (k x) (y ∷ us)
     mark_ends x k y us h = read_on kind (Item.maybe_mark x) k y us ∙ rw h refl
 
-    name_ends : (x : List ℕ) (k : List (List ℕ) × List ℕ → Plan A) (y : Word) (us : Words) → is_sign s.Dot y.kind ≡ false → run kind (read (Item.more_of_name x) k) (y ∷ us) ≡ run kind (k ([], x)) (y ∷ us)
+    pub name_ends : (x : List ℕ) (k : List (List ℕ) × List ℕ → Plan A) (y : Word) (us : Words) → is_sign s.Dot y.kind ≡ false → run kind (read (Item.more_of_name x) k) (y ∷ us) ≡ run kind (k ([], x)) (y ∷ us)
     name_ends x k y us h = read_on kind (Item.more_of_name x) k y us ∙ rw h refl
 
-    union_ends : (r : Ending) (k : List TypeExpr → Plan A) (y : Word) (us : Words) → is_sign s.Pipe y.kind ≡ false → run kind (read (Item.more_of_union (ended r)) k) (y ∷ us) ≡ run kind (k []) (y ∷ us)
+    pub union_ends : (r : Ending) (k : List TypeExpr → Plan A) (y : Word) (us : Words) → is_sign s.Pipe y.kind ≡ false → run kind (read (Item.more_of_union (ended r)) k) (y ∷ us) ≡ run kind (k []) (y ∷ us)
     union_ends InItself k y us h = read_on kind (Item.more_of_union (ended InItself)) k y us ∙ rw h refl
     union_ends InTuple k y us h = read_on kind (Item.more_of_union (ended InTuple)) k y us ∙ rw h refl
     union_ends InType k y us h = read_on kind (Item.more_of_union (ended InType)) k y us ∙ rw h refl
 
-    results_end : (k : List TypeTuple × After → Plan A) (y : Word) (us : Words) → is_sign s.Pipe y.kind ≡ false → run kind (read Item.more_results k) (y ∷ us) ≡ run kind (k ([], ended InTuple)) (y ∷ us)
+    pub results_end : (k : List TypeTuple × After → Plan A) (y : Word) (us : Words) → is_sign s.Pipe y.kind ≡ false → run kind (read Item.more_results k) (y ∷ us) ≡ run kind (k ([], ended InTuple)) (y ∷ us)
     results_end k y us h = read_on kind Item.more_results k y us ∙ rw h refl
 
-    bar_ends : (k : List TypeTuple × After → Plan A) (y : Word) (us : Words) → is_sign s.OpenParen y.kind ≡ false → run kind (read Item.behind_bar k) (y ∷ us) ≡ run kind (k ([], joined)) (y ∷ us)
+    pub bar_ends : (k : List TypeTuple × After → Plan A) (y : Word) (us : Words) → is_sign s.OpenParen y.kind ≡ false → run kind (read Item.behind_bar k) (y ∷ us) ≡ run kind (k ([], joined)) (y ∷ us)
     bar_ends k y us h = read_on kind Item.behind_bar k y us ∙ rw h refl
 
-    body_results_end : (k : List TypeTuple → Plan A) (y : Word) (us : Words) → is_sign s.Pipe y.kind ≡ false → run kind (read Item.more_body_results k) (y ∷ us) ≡ run kind (k []) (y ∷ us)
+    pub body_results_end : (k : List TypeTuple → Plan A) (y : Word) (us : Words) → is_sign s.Pipe y.kind ≡ false → run kind (read Item.more_body_results k) (y ∷ us) ≡ run kind (k []) (y ∷ us)
     body_results_end k y us h = read_on kind Item.more_body_results k y us ∙ rw h refl
 
     -- a parenthesis round one type
-    paren_ends : (p : Pos) (x : TypeExpr) (k : TypeExpr × After → Plan A) (y : Word) (us : Words) → is_sign s.Arrow y.kind ≡ false
+    pub paren_ends : (p : Pos) (x : TypeExpr) (k : TypeExpr × After → Plan A) (y : Word) (us : Words) → is_sign s.Arrow y.kind ≡ false
         → run kind (read (Item.behind_tuple p (x ∷ []) None) k) (y ∷ us) ≡ run kind (read (Item.maybe_mark (t.Paren p x)) λ z. k (z, ended InItself)) (y ∷ us)
     paren_ends p x k y us h =
         read_on kind (Item.behind_tuple p (x ∷ []) None) k y us
@@ -101,7 +101,7 @@ module _ (kind : ModuleKind) where
         ∙ dotted_reads d (want_name λ z. read (Item.more_of_name z.text) λ d. k x.pos (x.text ∷ d.0, d.1)) (λ o d. k x.pos (x.text ∷ d.0, d.1)) (λ z vs. refl) y us h
 
   -- a type in braces that begins as a type
-  named_unfold : {A : Type 0} (p : Pos) (x : Name) (k : TypeExpr → Plan A) (y : Word) (us : Words) → after_name y.kind ≡ true
+  pub named_unfold : {A : Type 0} (p : Pos) (x : Name) (k : TypeExpr → Plan A) (y : Word) (us : Words) → after_name y.kind ≡ true
       → run kind (read (Item.named_in_braces p x) k) (y ∷ us) ≡ run kind (read (Item.more_of_name x.text) λ d. read (Item.maybe_mark (t.Named x.pos d.0 d.1)) λ a. read (Item.more_of_union (ended InItself)) λ xs. want (sign s.CloseBrace) λ _. k (t.Array p (union_of a xs))) (y ∷ us)
   named_unfold {A = A} p x k y us h =
       read_on kind (Item.named_in_braces p x) k y us ∙ ap (λ r. on kind y us r k) (if_false _ _ _ (after_no_colon y.kind y.pos h) ∙ after_no_name y.kind _ _ h)

@@ -1,0 +1,29 @@
+use Rattle.std.proofs.Common.{◌≡◌, ◌+◌, ◌≤◌, ◌<◌, ◌∷◌, ◌++◌, [], length, Some, None, Ok, Err, true, false, refl, sym, ap, subst, ◌∙◌, arith, inl, inr, rules, append_assoc, append-nil}
+use Rattle.std.proofs.lemmas.Result.{err_from_is_err_and}
+use Rattle.std.proofs.lemmas.Int.{wrapping_neg_is}
+use Rattle.std.specs.Int.{w64}
+use Rattle.lua_tree.specs.declared.annotation.TypeExpr.TheVariants as t
+use Rattle.lua_lexer.specs.declared.token.Symbol.TheVariants as s
+use Rattle.lua_parser.specs.declared.cursor.Stop.TheVariants as stop
+use Rattle.lua_parser.specs.Words.{sign, key, marked, named}
+use Rattle.lua_parser.specs.Grammar.Types.{InItself, InTuple, InType, field, tuple, results}
+use Rattle.lua_parser.specs.Machine.Plan.{Item, read, want, ended, joined}
+use Rattle.lua_parser.specs.Machine.Steps.{union_of, tuple_then}
+use Rattle.lua_parser.specs.TypeReadings.{Leads, Fails, Turns, after_of, joined_by, member_of, items_of, item_behind, rest_of_name, end_of_array, type_of_field}
+use Rattle.lua_parser.proofs.TypeSteps as steps
+use Rattle.lua_parser.proofs.type_parts.marked.Goals as goal
+
+pub returns-in_err-meets : goal.returns-in_err-meets
+returns-in_err-meets c = let p = err_from_is_err_and c.from_residual.result c.from_residual.ensures.1 in rw (p.1, p.2) (steps.meets_fails (Item.maybe_mark c.args.ty) _ _ _ c.in_err-meets.ensures)
+
+pub returns-then-not-branch : goal.returns-then-not-branch
+returns-then-not-branch c = let h = rw c.if-not-branch.true at c.in_ok-meets.ensures in steps.stayed h.0 (steps.no_mark c.args.ty _ h.1 h.2)
+
+pub returns-in_err-closes : goal.returns-in_err-closes
+returns-in_err-closes c = let p = err_from_is_err_and c.from_residual-in_err-closes.result c.from_residual-in_err-closes.ensures.1 in rw (p.1, p.2) (steps.fails_deep c.in_err-closes.ensures)
+
+pub returns-in_err-new : goal.returns-in_err-new
+returns-in_err-new c = let p = err_from_is_err_and c.from_residual-in_err-new.result c.from_residual-in_err-new.ensures.1 in rw (p.1, p.2) (steps.fails_memory refl)
+
+pub returns : goal.returns
+returns c = let h = rw c.if-not-branch.false at c.in_ok-meets.ensures in steps.gives (steps.stayed c.in_ok-closes.ensures (steps.leads_less 0 (steps.took h.1 (steps.mark_leads c.args.ty h.0 _)) (omega arith))) (cc (c.place-pos.ensures, c.in_ok-new.ensures))
