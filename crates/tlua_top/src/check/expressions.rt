@@ -7,11 +7,11 @@ ghost use Rattle.line_rules.specs.Locals.{local_of};
 ghost use Rattle.line_rules.specs.Rules.{check_exp, operand, operation, operation_type, flow};
 ghost use Rattle.tlua_top.specs.Check.{Answers, typed_view, flowed_view};
 
+use line_rules::Local;
 use line_tree::{Expr, Operator};
 use line_types::{Flow, Text, Ty};
 use std::alloc::Global;
 use tl_base::{Boxed, CrossKind, Failure, NoMemory, Pos, Refusal, RefusalCode};
-use line_rules::Local;
 
 /// An expression's type and its marked tree; or what is known of a value where it flowed to, and its marked tree.
 #[derive(Debug, Drop)]

@@ -7,11 +7,11 @@ ghost use Rattle.line_rules.specs.Rules.{check_arguments, declaration, assignmen
 ghost use Rattle.tlua_top.specs.Check.{Answers, AnswersWith, typed_view, exps_view, line_view, lines_view};
 
 use crate::check::expressions::{Typed, expression, flow_into};
+use line_rules::{Local, declared_for, named_type};
 use line_tree::{Expr, Stat, TypeName};
 use line_types::Ty;
 use std::alloc::Global;
 use tl_base::{Failure, List, NoMemory, Pos};
-use line_rules::{Local, declared_for, named_type};
 
 /// Types the statements of a module and marks them.
 pub fn statements(alloc: Global, body: List<Stat>) -> Result<List<Stat>, Failure>
