@@ -96,6 +96,7 @@ advances old new x s e limit traced alive still code same next turns mark error 
   comes = tells.comes;
   ends = tells.ends;
   quiet = tells.quiet;
+  some = tells.some;
   bare = ap output_in next ∙ (settled_output old.code.functions s x settled ∙ bare);
   turns = turns ∙ (sym (settled_turns old.code.functions s x settled) ∙ ap turns_in (sym next));
   mark = mark ∙ (sym (settled_mark old.code.functions s x settled) ∙ ap mark_in (sym next));

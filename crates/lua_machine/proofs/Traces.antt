@@ -32,6 +32,7 @@ module _ (code : List Proto) (here there : Next) (limit l : ℕ) (before now nex
     noted = noted_then;
     quiet = λ o. let k = paces.quiet o in let e = k.1 in
         (so_far.steps + k.0, omega (arith, e), ap output_in (after_on code so_far.steps k.0 here ∙ ap (after code k.0) so_far.comes) ∙ k.2);
+    some = paces.some;
   }
 
   pub run_on : p ≡ pace.On → RunsOn code here (at_work new) limit before next

@@ -1,5 +1,5 @@
 -- Steps one behind the other.
-use Rattle.std.proofs.Common.{◌≡◌, refl, sym, ap, subst, ◌∙◌, ℕ, zero, suc, ◌+◌, Bool, true, false, List, [], ◌∷◌, ◌++◌, append_assoc, append-nil, Option, Some, None, arith}
+use Rattle.std.proofs.Common.{◌≡◌, refl, sym, ap, subst, ◌∙◌, ℕ, zero, suc, ◌+◌, ◌<◌, length, Bool, true, false, List, [], ◌∷◌, ◌++◌, append_assoc, append-nil, Option, Some, None, arith}
 use Rattle.tl_base.specs.declared.place.Pos.{Pos}
 use Rattle.lua_meaning.specs.World.{World, write}
 use Rattle.lua_meaning.specs.Programs.{Ending, failed}
@@ -20,7 +20,7 @@ use Rattle.lua_machine.specs.declared.pacing.Pace.TheVariants as pace
 use Rattle.lua_machine.specs.Frames.{Activity, with_item}
 use Rattle.lua_machine.specs.Flows.{next_of, Obeys}
 use Rattle.lua_machine.specs.Calls.{levels_with_caller, next_of_call}
-use Rattle.lua_machine.specs.Runs.{after, begun_from, Walk, output_in, at_work, next_of_pace, IsOutput, Paces}
+use Rattle.lua_machine.specs.Runs.{after, begun_from, Walk, output_in, at_work, next_of_pace, IsOutput, IsTold, Paces}
 
 module _ (code : List Proto) where
   -- ---- walks
@@ -91,6 +91,7 @@ module _ (code : List Proto) where
       walk = walk_step (calling p f vs levels w ks) (unwinding (levels_with_caller new)) (go (raising v (levels_with_caller new) new.store new.closures)) (stop (failed v) new.store) []
           (begins ∙ ap (λ c. next_of_call c new) is) (unwinds v (levels_with_caller new) new.store new.closures);
       quiet = λ h. absurd h;
+      some = tt {0};
     }
 
     module _ (frames : Activity) (pushed : frames ≡ with_item (item.Many []) new.frames) where
@@ -101,10 +102,25 @@ module _ (code : List Proto) where
             (walk_step (giving [] (levels_with_caller new) new.store new.closures) zero (at_work (record new { frames = frames })) (at_work (record new { frames = frames })) []
             (ap (λ (a : Activity). go (running a.frame a.levels new.store new.closures)) (sym pushed)) (walk_none (at_work (record new { frames = frames }))));
         quiet = λ h. absurd h;
+        some = tt {0};
       }
 
-      pub call_writes : (text : List ℕ) → called ≡ come.Gives (Some text) → w.output ≡ [] → Paces code (go (calling p f vs levels w ks)) (pace.Output text) (record new { frames = frames }) []
-      call_writes text is bare =
+      -- an empty text changes nothing
+      pub call_writes_none : (text : List ℕ) → called ≡ come.Gives (Some text) → text ≡ [] → Paces code (go (calling p f vs levels w ks)) pace.On (record new { frames = frames }) []
+      call_writes_none text is none =
+          let there = at_work (record new { frames = frames }) in
+          let same : write text new.store ≡ new.store = ap (λ t. write t new.store) none ∙ ap (λ o. record new.store { output = o }) (append-nil new.store.output) in record {
+            steps = 2;
+            walk = walk_step (calling p f vs levels w ks) 1 (next_of_call (come.Gives None) new) there []
+                (begins ∙ ap (λ c. next_of_call c new) is ∙ ap (λ x. go (giving [] (levels_with_caller new) x new.closures)) same)
+                (walk_step (giving [] (levels_with_caller new) new.store new.closures) zero there there []
+                (ap (λ (a : Activity). go (running a.frame a.levels new.store new.closures)) (sym pushed)) (walk_none there));
+            quiet = λ h. absurd h;
+            some = tt {0};
+          }
+
+      pub call_writes : (text : List ℕ) → called ≡ come.Gives (Some text) → w.output ≡ [] → 0 < length text → Paces code (go (calling p f vs levels w ks)) (pace.Output text) (record new { frames = frames }) []
+      call_writes text is bare long =
           let there = next_of_pace (pace.Output text) (record new { frames = frames }) in
           let written = write text new.store in record {
             steps = 2;
@@ -112,7 +128,17 @@ module _ (code : List Proto) where
                 (walk_step (giving [] (levels_with_caller new) written new.closures) zero there there []
                 (ap (λ (a : Activity). go (running a.frame a.levels written new.closures)) (sym pushed)) (walk_none there));
             quiet = λ h. (zero, refl, bare);
+            some = long;
           }
+
+      -- what is told of a text
+      pub call_tells : (text : List ℕ) → called ≡ come.Gives (Some text) → w.output ≡ [] → (q : Pace) → IsTold text q → Paces code (go (calling p f vs levels w ks)) q (record new { frames = frames }) []
+      call_tells text is bare pace.On told = call_writes_none text is told
+      call_tells text is bare (pace.Output t) told = call_writes t (is ∙ ap (λ x. come.Gives (Some x)) (sym told.0)) bare (subst (λ x. 0 < length x) (sym told.0) told.1)
+      call_tells text is bare pace.Done told = absurd told
+      call_tells text is bare (pace.Raised v) told = absurd told
+      call_tells text is bare pace.Spent told = absurd told
+      call_tells text is bare pace.Stuck told = absurd told
 
   -- ---- one instruction
 
@@ -127,6 +153,7 @@ module _ (code : List Proto) where
       walk = subst (λ s. Walk code (suc h.steps) (at_work old) (next_of_pace q new) s) (append-nil (begun_in code (running old.frames.frame old.frames.levels old.store old.closures)))
           (walk_step (running old.frames.frame old.frames.levels old.store old.closures) h.steps (go d) (next_of_pace q new) [] (steps_to ∙ is) h.walk);
       quiet = λ o. let k = h.quiet o in let e = k.1 in (suc k.0, omega (arith, e), ap (λ n. output_in (after code k.0 n)) (steps_to ∙ is) ∙ k.2);
+      some = h.some;
     }
 
     pub paces_raise : (v : Value) → came ≡ flow.Raise v → Paces code (at_work old) (pace.Raised v) mid (begun_in code (running old.frames.frame old.frames.levels old.store old.closures))
@@ -134,4 +161,5 @@ module _ (code : List Proto) where
       steps = unwinding mid.frames.levels;
       walk = unwinds v mid.frames.levels mid.store mid.closures;
       quiet = λ h. absurd h;
+      some = tt {0};
     })

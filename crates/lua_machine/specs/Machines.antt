@@ -1,5 +1,5 @@
 -- A machine as its users see it, and what each event tells of the run of its code.
-use Rattle.std.specs.Prelude.{◌≡◌, ℕ, ◌+◌, ◌-◌, Bool, true, false, List, [], ◌++◌, length, map, take, Option, Some, None}
+use Rattle.std.specs.Prelude.{◌≡◌, ℕ, ◌+◌, ◌-◌, ◌<◌, Bool, true, false, List, [], ◌++◌, length, map, take, Option, Some, None}
 use Rattle.tl_base.specs.declared.crossing.Crossing.{Crossing}
 use Rattle.lua_meaning.specs.World.{World, KindError}
 use Rattle.lua_meaning.specs.Programs.{finished, failed, spent}
@@ -46,6 +46,11 @@ abbrev pub IsText : Event → Type 0
 IsText (event.Output text) = Unit {0}
 IsText e = ⊥
 
+-- a text that is told is no empty one
+abbrev pub TellsSome : Event → Type 0
+TellsSome (event.Output text) = 0 < length text
+TellsSome e = Unit {0}
+
 -- where the run is when an event is told: its text was written, which the machine doesn't keep
 abbrev pub showing : Event → Next → Next
 showing (event.Output text) n = writing text n
@@ -64,6 +69,7 @@ pub record Tells (code : List Proto) (here : Next) (e : Event) (there : Next) (l
   pub comes : after code steps here ≡ showing e there
   pub ends : IsAfter e there
   pub quiet : IsText e → (k : ℕ) × (steps ≡ k + 2) × (output_in (after code k here) ≡ [])
+  pub some : TellsSome e
   pub noted : traced ≡ noted_all limit [] (begun_from code steps here)
 
 -- ---- machines
@@ -95,6 +101,7 @@ pub record Advances (old new : Sight) (e : Event) : Type 0 where
   pub comes : after old.code.functions steps old.next ≡ showing e new.next
   pub ends : IsAfter e new.next
   pub quiet : IsText e → (k : ℕ) × (steps ≡ k + 2) × (output_in (after old.code.functions k old.next) ≡ [])
+  pub some : TellsSome e
   pub bare : output_in new.next ≡ []
   -- what the other calls answer is that of the run where it is
   pub turns : new.turns ≡ turns_in new.next

@@ -1,5 +1,5 @@
 -- Runs of the code by repeated steps, and what is seen of them.
-use Rattle.std.specs.Prelude.{◌≡◌, ℕ, zero, suc, ◌+◌, ◌-◌, Bool, true, false, cond, nat_lt, List, [], ◌∷◌, ◌++◌, length, map, take, Option, Some, None}
+use Rattle.std.specs.Prelude.{◌≡◌, ℕ, zero, suc, ◌+◌, ◌-◌, ◌<◌, Bool, true, false, cond, nat_lt, List, [], ◌∷◌, ◌++◌, length, map, take, Option, Some, None}
 use Rattle.tl_base.specs.declared.crossing.Crossing.{Crossing}
 use Rattle.lua_meaning.specs.World.{World, KindError, write}
 use Rattle.lua_meaning.specs.Programs.{finished, failed, spent}
@@ -73,11 +73,23 @@ abbrev pub IsOutput : Pace → Type 0
 IsOutput (pace.Output text) = Unit {0}
 IsOutput p = ⊥
 
+-- a text that is told is no empty one
+abbrev pub WritesSome : Pace → Type 0
+WritesSome (pace.Output text) = 0 < length text
+WritesSome p = Unit {0}
+
+-- a text is told, but for the empty one
+abbrev pub IsTold : List ℕ → Pace → Type 0
+IsTold text pace.On = text ≡ []
+IsTold text (pace.Output told) = (told ≡ text) × (0 < length text)
+IsTold text p = ⊥
+
 -- Some steps lead from here to what a pace comes to. A text is written by the last step but one, and nothing was written before.
 pub record Paces (code : List Proto) (here : Next) (p : Pace) (new : State) (seen : List (ℕ × ℕ)) : Type 0 where
   pub steps : ℕ
   pub walk : Walk code steps here (next_of_pace p new) seen
   pub quiet : IsOutput p → (k : ℕ) × (steps ≡ k + 2) × (output_in (after code k here) ≡ [])
+  pub some : WritesSome p
 
 -- ---- the trace
 
@@ -98,6 +110,7 @@ pub record RunsTo (code : List Proto) (here : Next) (p : Pace) (new : State) (li
   pub comes : after code steps here ≡ next_of_pace p new
   pub noted : noted_now ≡ noted_all limit before (begun_from code steps here)
   pub quiet : IsOutput p → (k : ℕ) × (steps ≡ k + 2) × (output_in (after code k here) ≡ [])
+  pub some : WritesSome p
 
 -- the same while the function that runs goes on
 pub record RunsOn (code : List Proto) (here there : Next) (limit : ℕ) (before noted_now : List TraceStep) : Type 0 where

@@ -3,7 +3,7 @@ ghost use Rattle.lua_code.specs.declared.code.Instr.{Instr as Instruction};
 ghost use Rattle.lua_code.specs.Configurations.{running, calling, giving, go};
 ghost use Rattle.lua_code.specs.Steps.{instruction as meant, begun_in};
 ghost use Rattle.lua_machine.specs.Calls.{levels_with_caller};
-ghost use Rattle.lua_machine.specs.Runs.{Paces, at_work, noted_all};
+ghost use Rattle.lua_machine.specs.Runs.{Paces, IsTold, at_work, noted_all};
 ghost use Rattle.lua_machine.specs.Pacing.{seen_of};
 
 use crate::act::act;
@@ -45,6 +45,18 @@ fn instruction<'a>(functions: &'a [Proto], state: &State) -> Option<(&'a Instr, 
     }
 }
 
+/// A text is told, but for the empty one.
+#[inline(always)]
+fn told(text: Text) -> Pace
+    ensures { IsTold text result }
+{
+    if text.bytes().is_empty() {
+        Pace::On
+    } else {
+        Pace::Output(text)
+    }
+}
+
 /// Begins a call, and ends it where it is done at once.
 #[inline(always)]
 fn pace_call(
@@ -63,7 +75,7 @@ fn pace_call(
             let none = Values::new(state.alloc);
             state.frames.push(Item::Many(none))?;
             match text {
-                Some(text) => Ok(Pace::Output(text)),
+                Some(text) => Ok(told(text)),
                 None => Ok(Pace::On),
             }
         }
