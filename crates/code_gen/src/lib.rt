@@ -1,0 +1,2 @@
+//! The code of a program, written from its modules' trees.
+#![tactic(auto)]
