@@ -5,6 +5,9 @@ use Rattle.tl_base.specs.declared.place.Pos.{Pos}
 use Rattle.lua_tree.specs.Tree as tree
 use Rattle.lua_tree.specs.Tree.{Exp, Multi, Exps, Function, Stat, Clauses, Else, Step, Block}
 use Rattle.lua_meaning.specs.Locals.{exp_locals, multi_locals, exps_locals, function_locals, step_locals, stat_locals, clauses_locals, else_locals, block_locals}
+use Rattle.lua_tree.specs.declared.scoped.Scoped.{Scoped}
+use Rattle.lua_meaning.specs.Environment.{Names}
+use Rattle.lua_meaning.specs.Programs.{module_of}
 use Rattle.lua_code.specs.declared.code.Proto.{Proto}
 use Rattle.lua_code.specs.declared.code.Instr.{Instr}
 use Rattle.lua_code.specs.declared.code.Instr.TheVariants as instr
@@ -19,6 +22,10 @@ pub record Work : Type 0 where
   pub protos : List Proto
   pub code : Placed
   pub scope : Scope
+
+-- what the names of a module mean
+abbrev pub names_in : Scoped → Names
+names_in s = (module_of s).names
 
 -- the number of the next function that is finished
 abbrev pub base : Work → ℕ
@@ -43,12 +50,18 @@ abbrev pub next_from : ℕ → Work → Work
 next_from n w = with_scope (record w.scope { next = n }) w
 
 -- n locals, numbered from x on, come into scope in the first free slots
+abbrev pub entered : ℕ → ℕ → Scope → Scope
+entered n x sc = record sc { own = in_slots n x sc.free sc.own; free = sc.free + n }
+
 abbrev pub declaring : ℕ → ℕ → Work → Work
-declaring n x w = with_scope (record w.scope { own = in_slots n x w.scope.free w.scope.own; free = w.scope.free + n }) w
+declaring n x w = with_scope (entered n x w.scope) w
 
 -- so many locals that came first stay in scope, and slots are free from this one on
+abbrev pub left : ℕ → ℕ → Scope → Scope
+left count free sc = record sc { own = drop (length sc.own - count) sc.own; free = free }
+
 abbrev pub leaving : ℕ → ℕ → Work → Work
-leaving count free w = with_scope (record w.scope { own = drop (length w.scope.own - count) w.scope.own; free = free }) w
+leaving count free w = with_scope (left count free w.scope) w
 
 -- instructions alone
 unfoldable pub put_all : Placed → Work → Work

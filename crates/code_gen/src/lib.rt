@@ -1,2 +1,5 @@
 //! The code of a program, written from its modules' trees.
 #![tactic(auto)]
+
+mod locals;
+mod sums;
