@@ -1,1 +1,4 @@
 pub mod Forms
+pub mod Lists
+pub mod Scopes
+pub mod Put

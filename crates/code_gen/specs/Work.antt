@@ -8,12 +8,13 @@ use Rattle.lua_meaning.specs.Locals.{exp_locals, multi_locals, exps_locals, func
 use Rattle.lua_tree.specs.declared.scoped.Scoped.{Scoped}
 use Rattle.lua_meaning.specs.Environment.{Names}
 use Rattle.lua_meaning.specs.Programs.{module_of}
+use Rattle.lua_code.specs.declared.code.Capture.{Capture}
 use Rattle.lua_code.specs.declared.code.Proto.{Proto}
 use Rattle.lua_code.specs.declared.code.Instr.{Instr}
 use Rattle.lua_code.specs.declared.code.Instr.TheVariants as instr
 use Rattle.lua_tree.specs.Places.{place_of}
-use Rattle.lua_code.specs.Sizes.{function_inner}
-use Rattle.lua_code.specs.Generated.{Placed, one, begin_locals, Scope, past, in_slots, behind_stat, behind_block, exp_code, multi_code, list_code, step_code, stat_code, clauses_code, else_code, block_code, exp_protos, multi_protos, exps_protos, function_protos, step_protos, stat_protos, clauses_protos, else_protos, block_protos}
+use Rattle.lua_code.specs.Sizes.{function_inner, block_size}
+use Rattle.lua_code.specs.Generated.{Placed, one, new_cells, begin_locals, proto_of, Scope, past, in_slots, behind_stat, behind_block, exp_code, multi_code, list_code, step_code, stat_code, clauses_code, else_code, block_code, exp_protos, multi_protos, exps_protos, function_protos, step_protos, stat_protos, clauses_protos, else_protos, block_protos}
 
 pub record Work : Type 0 where
   -- the number of the first function inside a module
@@ -39,28 +40,28 @@ abbrev pub with_scope : Scope → Work → Work
 with_scope sc w = record w { scope = sc }
 
 -- a text that declares n locals is passed
-abbrev pub skip : ℕ → Work → Work
+unfoldable pub skip : ℕ → Work → Work
 skip n w = with_scope (past n w.scope) w
 
 -- with so many slots taken, and with so many locals declared before this place
-abbrev pub free_from : ℕ → Work → Work
+unfoldable pub free_from : ℕ → Work → Work
 free_from n w = with_scope (record w.scope { free = n }) w
 
-abbrev pub next_from : ℕ → Work → Work
+unfoldable pub next_from : ℕ → Work → Work
 next_from n w = with_scope (record w.scope { next = n }) w
 
 -- n locals, numbered from x on, come into scope in the first free slots
 abbrev pub entered : ℕ → ℕ → Scope → Scope
 entered n x sc = record sc { own = in_slots n x sc.free sc.own; free = sc.free + n }
 
-abbrev pub declaring : ℕ → ℕ → Work → Work
+unfoldable pub declaring : ℕ → ℕ → Work → Work
 declaring n x w = with_scope (entered n x w.scope) w
 
 -- so many locals that came first stay in scope, and slots are free from this one on
 abbrev pub left : ℕ → ℕ → Scope → Scope
 left count free sc = record sc { own = drop (length sc.own - count) sc.own; free = free }
 
-abbrev pub leaving : ℕ → ℕ → Work → Work
+unfoldable pub leaving : ℕ → ℕ → Work → Work
 leaving count free w = with_scope (left count free w.scope) w
 
 -- instructions alone
@@ -127,7 +128,31 @@ with_each_begun slot n x test p w =
 unfoldable pub with_function : Function → Pos → Work → Work
 with_function f p w = grown [] (function_protos f p w.scope (base w)) (past (function_locals f) w.scope) w
 
--- ---- statements: `break` goes to the place brk
+-- ---- blocks: `break` goes to the place brk
+
+-- a block whose locals stay in scope, and one whose locals end with it
+unfoldable pub with_block : Block → ℕ → Work → Work
+with_block b brk w = grown (block_code b w.scope (base w) (length w.code) brk) (block_protos b w.scope (base w)) (behind_block b w.scope) w
+
+unfoldable pub with_scoped : Block → ℕ → Work → Work
+with_scoped b brk w = with_scope (past (block_locals b) w.scope) (with_block b brk w)
+
+-- ---- functions
+
+-- a function's body: the parameters become cells, and where it ends without `return`, nothing is given
+abbrev pub with_body : ℕ → Block → Pos → Work → Work
+with_body params b p w = put instr.Return p (put (instr.Pack 0) p (with_block b (params + block_size b) (put_all (new_cells 0 params p) w)))
+
+-- the code so far and the scope of the function at work
+abbrev pub at_work : Placed → Scope → Work → Work
+at_work code sc w = record w { code = code; scope = sc }
+
+-- the function at work is finished, and the one around it, with its code so far and its scope, goes on behind its text
+abbrev pub finished : Placed → Scope → ℕ → Bool → ℕ → List Capture → Work → Work
+finished code sc params vararg slots captures w =
+    record w { protos = w.protos ++ proto_of params vararg captures slots w.code ∷ []; code = code; scope = record sc { next = w.scope.next } }
+
+-- ---- statements
 
 unfoldable pub with_stat : Stat → ℕ → Work → Work
 with_stat s brk w = grown (stat_code s w.scope (base w) (length w.code) brk) (stat_protos s w.scope (base w)) (behind_stat s w.scope) w
@@ -138,10 +163,3 @@ with_clauses cs p end brk w =
 
 unfoldable pub with_else : Else → ℕ → Work → Work
 with_else b brk w = grown (else_code b w.scope (base w) (length w.code) brk) (else_protos b w.scope (base w)) (past (else_locals b) w.scope) w
-
--- a block whose locals stay in scope, and one whose locals end with it
-unfoldable pub with_block : Block → ℕ → Work → Work
-with_block b brk w = grown (block_code b w.scope (base w) (length w.code) brk) (block_protos b w.scope (base w)) (behind_block b w.scope) w
-
-unfoldable pub with_scoped : Block → ℕ → Work → Work
-with_scoped b brk w = with_scope (past (block_locals b) w.scope) (with_block b brk w)

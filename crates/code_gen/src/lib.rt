@@ -2,4 +2,9 @@
 #![tactic(auto)]
 
 mod locals;
+mod operators;
+mod scope;
+mod sizes;
+mod slots;
 mod sums;
+mod writer;

@@ -1,6 +1,7 @@
 ghost use Rattle.std.specs.Prelude.{◌≡◌, ◌+◌, ◌-◌, ◌++◌, nat_eq, drop, length, map, reverse, IfOk, OnOk};
 ghost use Rattle.std.specs.Map.{lookup, keys_of};
 ghost use Rattle.lua_code.specs.Generated.{captured_from, read_local, write_local, read_use, write_use, use_in, past, in_slots, captures_in, outer_from, inner_captured, inside, module_scope};
+ghost use Rattle.lua_code.specs.declared.code.Capture.TheVariants as capture;
 ghost use Rattle.code_gen.specs.Work.{entered, left};
 
 use crate::sums::sum;
@@ -13,7 +14,7 @@ use tl_base::{List, NoMemory};
 /// The locals in scope at a place of a function: its own with their slots, and those of the functions around it, which it captures.
 #[derive(Drop)]
 pub struct Scope<'a> {
-    module: &'a Scoped,
+    scoped: &'a Scoped,
     /// locals with their slots, the innermost last
     own: Vec<(u64, u64)>,
     /// the innermost first
@@ -31,7 +32,7 @@ impl<'a> Model for Scope<'a> {
 
     ghost Value = { Around };
 
-    ghost view = { λ s. record { names = names_in s.module.now; own = reverse s.own.items; captured = s.captured.items; free = s.free; next = s.next } };
+    ghost view = { λ s. record { names = names_in s.scoped.now; own = reverse s.own.items; captured = s.captured.items; free = s.free; next = s.next } };
 }
 
 /// The slot of the innermost entry of a local.
@@ -59,7 +60,30 @@ fn index_in(captured: &[u64], local: u64) -> Option<u64>
     None
 }
 
+/// So many locals, numbered from the first on, come into scope in the slots from one on.
+#[tactic(auto, using(crate::proofs::Scopes::entered_step))]
+fn enter_all(own: &mut Vec<(u64, u64)>, count: u64, first: u64, slot: u64) -> Result<(), NoMemory>
+    ensures { OnOk result (reverse own.new.items ≡ in_slots count first slot (reverse own.old.items)) }
+{
+    for i in 0..count {
+        own.push((sum(first, i)?, sum(slot, i)?))?;
+    }
+    Ok(())
+}
+
+/// The cells of a function's own locals, the innermost first.
+fn own_cells(alloc: Global, own: &[(u64, u64)]) -> Result<List<Capture>, NoMemory>
+    ensures { IfOk result (λ captures. captures ≡ map (λ o. capture.Cell o.1) (reverse own.now)) }
+{
+    let mut captures = List::new(alloc);
+    for (_, slot) in own.iter().rev() {
+        captures.push(Capture::Cell(*slot))?;
+    }
+    Ok(captures)
+}
+
 /// The cells of captured locals are captured again.
+#[tactic(auto, using(crate::proofs::Scopes::outer_step))]
 fn capture_outer(captured: &[u64], captures: &mut List<Capture>) -> Result<(), NoMemory>
     ensures { OnOk result (captures.new ≡ captures.old ++ outer_from 0 captured.now) }
 {
@@ -73,11 +97,11 @@ impl<'a> Scope<'a> {
     ghost use Rattle.code_gen.specs.Work.{names_in};
 
     /// The scope at the beginning of a module. It takes no memory.
-    pub fn new(alloc: Global, module: &'a Scoped) -> Scope<'a>
-        ensures { result ≡ module_scope (names_in module.now) }
+    pub fn new(alloc: Global, scoped: &'a Scoped) -> Scope<'a>
+        ensures { result ≡ module_scope (names_in scoped.now) }
     {
         Scope {
-            module,
+            scoped,
             own: Vec::new(alloc),
             captured: Vec::new(alloc),
             free: 0,
@@ -132,14 +156,13 @@ impl<'a> Scope<'a> {
     pub fn enter(&mut self, count: u64, first: u64) -> Result<(), NoMemory>
         ensures { OnOk result (self.new ≡ entered count first self.old) }
     {
-        for i in 0..count {
-            self.own.push((sum(first, i)?, sum(self.free, i)?))?;
-        }
+        enter_all(&mut self.own, count, first, self.free)?;
         self.free = sum(self.free, count)?;
         Ok(())
     }
 
     /// All but so many locals that came first go out of scope, and slots are free from this one on.
+    #[tactic(auto, using(crate::proofs::Scopes::first_left))]
     pub fn leave(&mut self, count: usize, free: u64)
         ensures { self.new ≡ left count free self.old }
     {
@@ -175,7 +198,7 @@ impl<'a> Scope<'a> {
     pub fn use_in(&self, number: u32) -> Option<Use>
         ensures { result ≡ use_in self.now number }
     {
-        self.module.uses.get(number as usize).copied()
+        self.scoped.uses.get(number as usize).copied()
     }
 
     /// The instruction that gives the value of a use.
@@ -203,10 +226,7 @@ impl<'a> Scope<'a> {
     pub fn captures(&self, alloc: Global) -> Result<List<Capture>, NoMemory>
         ensures { IfOk result (λ captures. captures ≡ captures_in self.now) }
     {
-        let mut captures = List::new(alloc);
-        for (_, slot) in self.own.iter().rev() {
-            captures.push(Capture::Cell(*slot))?;
-        }
+        let mut captures = own_cells(alloc, &self.own)?;
         capture_outer(&self.captured, &mut captures)?;
         Ok(captures)
     }
@@ -228,7 +248,7 @@ impl<'a> Scope<'a> {
         ensures { IfOk result (λ inner. inner ≡ inside params self.now) }
     {
         let mut inner = Scope {
-            module: self.module,
+            scoped: self.scoped,
             own: Vec::new(alloc),
             captured: self.inner_captured(alloc)?,
             free: 0,

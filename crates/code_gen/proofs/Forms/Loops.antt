@@ -27,38 +27,38 @@ use Rattle.lua_code.proofs.Faithful.Lengths.{exp_length, multi_length, list_leng
 use Rattle.code_gen.specs.Pieces.{between, behind}
 use Rattle.code_gen.proofs.Forms.Statements.{left_slots}
 use Rattle.lua_meaning.specs.Trees.{first_place}
-use Rattle.code_gen.specs.Work.{Work, base, grown, skip, free_from, next_from, with_scope, put_all, put, with_exp, with_multi, with_values, is_open, with_list, with_step, with_function, declaring, with_bound, with_count_begun, with_each_begun, leaving, with_stat, with_clauses, with_else, with_block, with_scoped}
+use Rattle.code_gen.specs.Work.{Work, left, entered, base, grown, skip, free_from, next_from, with_scope, put_all, put, with_exp, with_multi, with_values, is_open, with_list, with_step, with_function, declaring, with_bound, with_count_begun, with_each_begun, leaving, with_stat, with_clauses, with_else, with_block, with_scoped}
 
 
 module _ (w : Work) (c : Placed) (ps : List Proto) (sc : Scope) where
   put_after : (i : Instr) (p : Pos) → put i p (grown c ps sc w) ≡ grown (c ++ one i p) ps sc w
-  unfolding put_all
+  unfolding put_all skip free_from next_from declaring leaving
   put_after i p = simp append_assoc
 
   put_all_after : (d : Placed) → put_all d (grown c ps sc w) ≡ grown (c ++ d) ps sc w
-  unfolding put_all
+  unfolding put_all skip free_from next_from declaring leaving
   put_all_after d = simp append_assoc
 
   module _ (a b : ℕ) (here : length w.code + length c ≡ a) (number : base w + length ps ≡ b) where
     exp_after : (e : Exp) → with_exp e (grown c ps sc w) ≡ grown (c ++ exp_code e sc b a) (ps ++ exp_protos e sc b) (past (exp_locals e) sc) w
-    unfolding with_exp
+    unfolding with_exp skip free_from next_from declaring leaving
     exp_after e = rw (← here, ← number) (simp (append_assoc, length-append, add_assoc))
 
     step_after : (e : Step) (p : Pos) → with_step e p (grown c ps sc w) ≡ grown (c ++ step_code e p sc b a) (ps ++ step_protos e sc b) (past (step_locals e) sc) w
-    unfolding with_step
+    unfolding with_step skip free_from next_from declaring leaving
     step_after e p = rw (← here, ← number) (simp (append_assoc, length-append, add_assoc))
 
     list_after : (es : Exps) (p : Pos) (n : ℕ) → with_list es p n (grown c ps sc w) ≡ grown (c ++ list_code es p n sc b a) (ps ++ exps_protos es sc b) (past (exps_locals es) sc) w
-    unfolding with_list
+    unfolding with_list skip free_from next_from declaring leaving
     list_after es p n = rw (← here, ← number) (simp (append_assoc, length-append, add_assoc))
 
     scoped_after : (d : Block) (brk : ℕ) → with_scoped d brk (grown c ps sc w) ≡ grown (c ++ block_code d sc b a brk) (ps ++ block_protos d sc b) (past (block_locals d) sc) w
-    unfolding with_scoped with_block
+    unfolding with_scoped with_block skip free_from next_from declaring leaving
     scoped_after d brk = rw (← here, ← number) (simp (append_assoc, length-append, add_assoc))
 
     bound_after : (e : Exp) (slot : ℕ) (p : Pos)
         → with_bound e slot p (grown c ps sc w) ≡ grown (c ++ (exp_code e sc b a ++ (instr.Bound, place_of e) ∷ one (instr.SetSlot slot) p)) (ps ++ exp_protos e sc b) (record (past (exp_locals e) sc) { free = slot + 1 }) w
-    unfolding put_all
+    unfolding put_all skip free_from next_from declaring leaving
     bound_after e slot p = ap (λ v. free_from (slot + 1) (put (instr.SetSlot slot) p (put instr.Bound (place_of e) v))) (exp_after e) ∙ simp append_assoc
 
 begun : (w : Work) → w ≡ grown [] [] w.scope w
@@ -69,7 +69,7 @@ begun w = simp append-nil
 begun_count_after : (w : Work) (c : Placed) (ps : List Proto) (sc : Scope) (slot x end : ℕ) (q p : Pos)
     → with_count_begun slot x end q p (grown c ps sc w)
     ≡ grown (c ++ (instr.ForPrep slot end, q) ∷ (instr.Turn, p) ∷ (instr.GetSlot slot, p) ∷ (instr.SetSlot (slot + 3), p) ∷ one (instr.NewCell (slot + 3)) p) ps (record sc { own = (x, slot + 3) ∷ sc.own; free = slot + 3 + 1 }) w
-unfolding put_all
+unfolding put_all skip free_from next_from declaring leaving
 begun_count_after w c ps sc slot x end q p = simp append_assoc
 
 module _ (w : Work) (p : Pos) (a b : Exp) (c : Step) (d : Block) (turn end : ℕ)
@@ -116,6 +116,7 @@ module _ (w : Work) (p : Pos) (a b : Exp) (c : Step) (d : Block) (turn end : ℕ
   functions_c = step_protos c scope_b (base w + exp_functions a + exp_functions b)
 
   part_a : with_bound a slot p (skip 1 w) ≡ grown ([] ++ code_a) ([] ++ functions_a) scope_a w
+  unfolding skip free_from next_from declaring leaving
   part_a = ap (λ v. with_bound a slot p v) (begun (skip 1 w)) ∙ bound_after (skip 1 w) [] [] (past 1 w.scope) (length w.code) (base w) (add-zero (length w.code)) (add-zero (base w)) a slot p
 
   part_b : with_bound b (slot + 1) p (grown ([] ++ code_a) ([] ++ functions_a) scope_a w) ≡ grown ([] ++ code_a ++ code_b) ([] ++ functions_a ++ functions_b) scope_b w
@@ -194,15 +195,16 @@ module _ (w : Work) (p : Pos) (a b : Exp) (c : Step) (d : Block) (turn end : ℕ
   whole : (n : Name) (brk : ℕ)
       → grown (code_begun ++ block_code d scope_turn (base w + exp_functions a + exp_functions b + step_functions c) (turn + 4) end ++ one (instr.ForStep slot turn) p) (functions_begun ++ block_protos d scope_turn (base w + exp_functions a + exp_functions b + step_functions c)) (record w.scope { next = w.scope.next + stat_locals (tree.count p n a b c d) }) w
       ≡ with_stat (tree.count p n a b c d) brk w
-  unfolding with_stat
+  unfolding with_stat skip free_from next_from declaring leaving
   whole n brk = rw (at_end, at_turn) (simp (append_assoc, add_assoc, add-zero))
 
-  left : leaving (length w.scope.own) w.scope.free (grown (code_begun ++ block_code d scope_turn (base w + exp_functions a + exp_functions b + step_functions c) (turn + 4) end ++ one (instr.ForStep slot turn) p) (functions_begun ++ block_protos d scope_turn (base w + exp_functions a + exp_functions b + step_functions c)) (past (block_locals d) scope_turn) w)
+  count_left : leaving (length w.scope.own) w.scope.free (grown (code_begun ++ block_code d scope_turn (base w + exp_functions a + exp_functions b + step_functions c) (turn + 4) end ++ one (instr.ForStep slot turn) p) (functions_begun ++ block_protos d scope_turn (base w + exp_functions a + exp_functions b + step_functions c)) (past (block_locals d) scope_turn) w)
       ≡ grown (code_begun ++ block_code d scope_turn (base w + exp_functions a + exp_functions b + step_functions c) (turn + 4) end ++ one (instr.ForStep slot turn) p) (functions_begun ++ block_protos d scope_turn (base w + exp_functions a + exp_functions b + step_functions c)) (record w.scope { next = w.scope.next + (1 + exp_locals a + exp_locals b + step_locals c + block_locals d) }) w
-  left = rw (left_slots 1 w.scope.next (slot + 3) w.scope.own) (simp add_assoc)
+  unfolding skip free_from next_from declaring leaving
+  count_left = rw (left_slots 1 w.scope.next (slot + 3) w.scope.own) (simp add_assoc)
 
   pub count_form : (n : Name) (brk : ℕ) → leaving (length w.scope.own) w.scope.free (count_end (count_turn (count_step (with_bound b (slot + 1) p (with_bound a slot p (skip 1 w)))))) ≡ with_stat (tree.count p n a b c d) brk w
-  count_form n brk = ap (leaving (length w.scope.own) w.scope.free) parts ∙ left ∙ whole n brk
+  count_form n brk = ap (leaving (length w.scope.own) w.scope.free) parts ∙ count_left ∙ whole n brk
 
 -- ---- the generic `for`
 
@@ -211,7 +213,7 @@ begun_each_after : (w : Work) (c : Placed) (ps : List Proto) (sc : Scope) (slot 
     ≡ grown
       (c ++ (instr.Spread 3, p) ∷ (instr.SetSlot (slot + 2), p) ∷ (instr.SetSlot (slot + 1), p) ∷ (instr.SetSlot slot, p) ∷ (instr.Jump test, p) ∷ (instr.Turn, p) ∷ (instr.Spread n, p) ∷ begin_locals (slot + 3) n p)
       ps (record sc { own = in_slots n x (slot + 3) sc.own; free = slot + 3 + n }) w
-unfolding put_all
+unfolding put_all skip free_from next_from declaring leaving
 begun_each_after w c ps sc slot n x test p = simp append_assoc
 
 module _ (w : Work) (p : Pos) (ns : List Name) (es : Exps) (d : Block) (turn test : ℕ)
@@ -238,6 +240,7 @@ module _ (w : Work) (p : Pos) (ns : List Name) (es : Exps) (d : Block) (turn tes
   each_inner = block_protos d each_scope (base w + exps_functions es)
 
   each_listed : with_list es p 0 (skip (length ns) w) ≡ grown ([] ++ each_list) ([] ++ each_functions) (past (exps_locals es) (past (length ns) w.scope)) w
+  unfolding skip free_from next_from declaring leaving
   each_listed = ap (with_list es p 0) (begun (skip (length ns) w)) ∙ list_after (skip (length ns) w) [] [] (past (length ns) w.scope) (length w.code) (base w) (add-zero (length w.code)) (add-zero (base w)) es p 0
 
   each_here : length w.code + length ([] ++ each_list ++ each_turn) ≡ turn + 2 + length ns + length ns
@@ -261,10 +264,11 @@ module _ (w : Work) (p : Pos) (ns : List Name) (es : Exps) (d : Block) (turn tes
 
   each_left : leaving (length w.scope.own) w.scope.free (grown each_whole ([] ++ each_functions ++ each_inner) (past (block_locals d) each_scope) w)
       ≡ grown each_whole ([] ++ each_functions ++ each_inner) (record w.scope { next = w.scope.next + (length ns + exps_locals es + block_locals d) }) w
+  unfolding skip free_from next_from declaring leaving
   each_left = rw (left_slots (length ns) w.scope.next (w.scope.free + 3) w.scope.own) (simp add_assoc)
 
   each_same : (brk : ℕ) → grown each_whole ([] ++ each_functions ++ each_inner) (record w.scope { next = w.scope.next + (length ns + exps_locals es + block_locals d) }) w ≡ with_stat (tree.each p ns es d) brk w
-  unfolding with_stat
+  unfolding with_stat skip free_from next_from declaring leaving
   each_same brk = rw (at_test, at_turn) (simp (append_assoc, add_assoc, add-zero))
 
   pub each_form : (brk : ℕ) → leaving (length w.scope.own) w.scope.free (each_end (with_each_begun w.scope.free (length ns) w.scope.next test p (with_list es p 0 (skip (length ns) w)))) ≡ with_stat (tree.each p ns es d) brk w

@@ -25,7 +25,7 @@ use Rattle.lua_code.specs.Sizes.{stat_size, block_size, clauses_size, else_size,
 use Rattle.lua_code.specs.Generated.{declared, in_slots, behind_stat, behind_block, stores, store_instr, target_count, write_use, write_local, set_slots, new_cells, begin_locals, step_place, iterate_code, body_code, proto_of, captures_in, inside, stat_code, clauses_code, else_code, block_code, stat_protos, clauses_protos, else_protos, block_protos, Placed, one, Scope, past, taken, read_use, use_in, field_instr, truth_instr, unary_instr, binary_code, mark_at, exp_code, multi_code, list_code, step_code, exp_protos, multi_protos, exps_protos, function_protos, step_protos}
 use Rattle.lua_code.proofs.Faithful.Lengths.{exp_length, multi_length, list_length, exp_count, multi_count, exps_count, function_count, stat_length, stat_count, block_length, block_count, clauses_length, clauses_count, else_length, else_count, step_length, step_count, begin_length, new_cells_length, set_slots_length}
 use Rattle.code_gen.specs.Pieces.{between, behind}
-use Rattle.code_gen.specs.Work.{Work, base, grown, skip, free_from, next_from, with_scope, put_all, put, with_exp, with_multi, with_values, is_open, with_list, with_step, with_function, declaring, leaving, with_stat, with_clauses, with_else, with_block, with_scoped}
+use Rattle.code_gen.specs.Work.{Work, left, entered, base, grown, skip, free_from, next_from, with_scope, put_all, put, with_exp, with_multi, with_values, is_open, with_list, with_step, with_function, declaring, leaving, with_stat, with_clauses, with_else, with_block, with_scoped}
 
 -- ---- where a block leaves the scope
 
@@ -75,7 +75,7 @@ behind_own b sc =
     ap (λ z. drop z (behind_block b sc).own) e ∙ behind_dropped b 0 sc
 
 pub scoped_form : (b : Block) (brk : ℕ) (w : Work) → leaving (length w.scope.own) w.scope.free (with_block b brk w) ≡ with_scoped b brk w
-unfolding with_scoped with_block
+unfolding with_scoped with_block skip free_from next_from declaring leaving
 scoped_form b brk w = simp (behind_own, behind_names, behind_captured, behind_next)
 
 pub left_slots : (n x s : ℕ) (own : List (ℕ × ℕ)) → drop (length (in_slots n x s own) - length own) (in_slots n x s own) ≡ own
@@ -86,33 +86,33 @@ left_slots n x s own =
 -- ---- blocks
 
 pub finish_form : (brk : ℕ) (w : Work) → w ≡ with_block tree.finish brk w
-unfolding with_block
+unfolding with_block skip free_from next_from declaring leaving
 finish_form brk w = simp append-nil
 
 pub returns_form : (p : Pos) (es : Exps) (brk : ℕ) (w : Work) → put instr.Return p (with_list es p 0 w) ≡ with_block (tree.returns p es) brk w
-unfolding with_block with_list put_all
+unfolding with_block with_list put_all skip free_from next_from declaring leaving
 returns_form p es brk w = simp append_assoc
 
 pub next_form : (s : Stat) (b : Block) (brk : ℕ) (w : Work) → with_block b brk (with_stat s brk w) ≡ with_block (tree.next s b) brk w
-unfolding with_block with_stat
+unfolding with_block with_stat skip free_from next_from declaring leaving
 next_form s b brk w = simp (append_assoc, length-append, stat_length, stat_count, add_assoc)
 
 -- ---- statements
 
 pub empty_form : (p : Pos) (brk : ℕ) (w : Work) → w ≡ with_stat (tree.empty p) brk w
-unfolding with_stat
+unfolding with_stat skip free_from next_from declaring leaving
 empty_form p brk w = simp (append-nil, add-zero)
 
 pub interface_form : (p : Pos) (n : Name) (fs : List TypeField) (brk : ℕ) (w : Work) → w ≡ with_stat (tree.interface p n fs) brk w
-unfolding with_stat
+unfolding with_stat skip free_from next_from declaring leaving
 interface_form p n fs brk w = simp (append-nil, add-zero)
 
 pub alias_form : (p : Pos) (n : Name) (t : TypeExpr) (brk : ℕ) (w : Work) → w ≡ with_stat (tree.alias p n t) brk w
-unfolding with_stat
+unfolding with_stat skip free_from next_from declaring leaving
 alias_form p n t brk w = simp (append-nil, add-zero)
 
 pub define_method_form : (p : Pos) (e : Exp) (n : Name) (f : Exp) (brk : ℕ) (w : Work) → skip (exp_locals e + 1 + exp_locals f) w ≡ with_stat (tree.define_method p e n f) brk w
-unfolding with_stat
+unfolding with_stat skip free_from next_from declaring leaving
 define_method_form p e n f brk w = simp (append-nil, add-zero)
 
 store_past : (e : Exp) (n : ℕ) (sc : Scope) → store_instr e (past n sc) ≡ store_instr e sc
@@ -132,15 +132,15 @@ stores_past (tree.target e ts) p n sc =
 
 pub assign_form : (p : Pos) (ts : Targets) (es : Exps) (brk : ℕ) (w : Work)
     → put_all (stores ts p w.scope) (put (instr.Spread (target_count ts)) p (with_list es p 0 (skip (targets_locals ts) w))) ≡ with_stat (tree.assign p ts es) brk w
-unfolding with_stat with_list put_all
+unfolding with_stat with_list put_all skip free_from next_from declaring leaving
 assign_form p ts es brk w = simp (append_assoc, add_assoc, add-zero)
 
 pub run_form : (p : Pos) (e : Exp) (brk : ℕ) (w : Work) → put instr.Pop p (with_exp e w) ≡ with_stat (tree.run p e) brk w
-unfolding with_stat with_exp put_all
+unfolding with_stat with_exp put_all skip free_from next_from declaring leaving
 run_form p e brk w = simp (append_assoc, add-zero)
 
 pub leave_form : (p : Pos) (brk : ℕ) (w : Work) → put (instr.Jump brk) p w ≡ with_stat (tree.leave p) brk w
-unfolding with_stat put_all
+unfolding with_stat put_all skip free_from next_from declaring leaving
 leave_form p brk w = simp (append-nil, add-zero)
 
 suc_plus : (a b : ℕ) → suc a + b ≡ suc (a + b)
@@ -150,7 +150,7 @@ one_plus : (a b : ℕ) → a + (1 + b) ≡ suc (a + b)
 one_plus a b = omega arith
 
 pub scope_form : (p : Pos) (b : Block) (brk : ℕ) (w : Work) → with_scoped b brk w ≡ with_stat (tree.scope p b) brk w
-unfolding with_stat with_scoped with_block
+unfolding with_stat with_scoped with_block skip free_from next_from declaring leaving
 scope_form p b brk w = simp add-zero
 
 pub while_form : (p : Pos) (e : Exp) (b : Block) (brk : ℕ) (w : Work)
@@ -163,18 +163,18 @@ pub while_form : (p : Pos) (e : Exp) (b : Block) (brk : ℕ) (w : Work)
       (put instr.Turn p
       (put (instr.Jump (length w.code + 2 + block_size b)) p w)))))))
     ≡ with_stat (tree.while p e b) brk w
-unfolding with_stat with_scoped with_block with_exp put_all
+unfolding with_stat with_scoped with_block with_exp put_all skip free_from next_from declaring leaving
 while_form p e b brk w = simp (append_assoc, length-append, block_length, block_count, add_assoc, add-zero, suc_plus, unary_clauses)
 
 -- with the text of the block passed
 block_passed : (b : Block) (brk : ℕ) (w : Work) → next_from (w.scope.next + block_locals b) (with_block b brk w) ≡ with_block b brk w
-unfolding with_block
+unfolding with_block skip free_from next_from declaring leaving
 block_passed b brk w = ap (λ z. next_from z (with_block b brk w)) (sym (behind_next b w.scope))
 
 repeat_passed : (p : Pos) (b : Block) (e : Exp) (brk : ℕ) (w : Work)
     → leaving (length w.scope.own) w.scope.free (put (instr.JumpIfNot (length w.code)) p (with_exp e (next_from (w.scope.next + block_locals b) (with_block b (length w.code + 1 + block_size b + exp_size e + 1) (put instr.Turn p w)))))
     ≡ with_stat (tree.repeat p b e) brk w
-unfolding with_stat with_block with_exp put_all
+unfolding with_stat with_block with_exp put_all skip free_from next_from declaring leaving
 repeat_passed p b e brk w =
     rw (behind_own b w.scope)
     (simp (append_assoc, length-append, block_length, block_count, behind_names, behind_captured, add_assoc, add-zero, suc_plus, unary_clauses))
@@ -182,18 +182,18 @@ repeat_passed p b e brk w =
 pub repeat_form : (p : Pos) (b : Block) (e : Exp) (brk : ℕ) (w : Work)
     → leaving (length w.scope.own) w.scope.free (put (instr.JumpIfNot (length w.code)) p (with_exp e (with_block b (length w.code + 1 + block_size b + exp_size e + 1) (put instr.Turn p w))))
     ≡ with_stat (tree.repeat p b e) brk w
-unfolding with_block with_exp put_all
+unfolding with_block with_exp put_all skip free_from next_from declaring leaving
 repeat_form p b e brk w =
     ap (λ v. leaving (length w.scope.own) w.scope.free (put (instr.JumpIfNot (length w.code)) p (with_exp e v))) (sym (block_passed b (length w.code + 1 + block_size b + exp_size e + 1) (put instr.Turn p w)))
     ∙ repeat_passed p b e brk w
 
 pub choose_form : (p : Pos) (cs : Clauses) (b : Else) (brk : ℕ) (w : Work)
     → with_else b brk (with_clauses cs p (length w.code + clauses_size cs + else_size b) brk w) ≡ with_stat (tree.choose p cs b) brk w
-unfolding with_stat with_clauses with_else
+unfolding with_stat with_clauses with_else skip free_from next_from declaring leaving
 choose_form p cs b brk w = simp (append_assoc, length-append, clauses_length, clauses_count, add_assoc, add-zero)
 
 pub no_clause_form : (p : Pos) (end brk : ℕ) (w : Work) → w ≡ with_clauses tree.no_clause p end brk w
-unfolding with_clauses
+unfolding with_clauses skip free_from next_from declaring leaving
 no_clause_form p end brk w = simp (append-nil, add-zero)
 
 pub clause_form : (e : Exp) (b : Block) (cs : Clauses) (p : Pos) (end brk : ℕ) (w : Work)
@@ -202,19 +202,19 @@ pub clause_form : (e : Exp) (b : Block) (cs : Clauses) (p : Pos) (end brk : ℕ)
       (with_scoped b brk
       (put (instr.JumpIfNot (length w.code + exp_size e + 1 + block_size b + 1)) p (with_exp e w))))
     ≡ with_clauses (tree.clause e b cs) p end brk w
-unfolding with_clauses with_scoped with_block with_exp put_all
+unfolding with_clauses with_scoped with_block with_exp put_all skip free_from next_from declaring leaving
 clause_form e b cs p end brk w = simp (append_assoc, length-append, exp_length, exp_count, block_length, block_count, add_assoc, suc_plus, unary_clauses)
 
 pub no_else_form : (brk : ℕ) (w : Work) → w ≡ with_else tree.no_else brk w
-unfolding with_else
+unfolding with_else skip free_from next_from declaring leaving
 no_else_form brk w = simp (append-nil, add-zero)
 
 pub else_form : (b : Block) (brk : ℕ) (w : Work) → with_scoped b brk w ≡ with_else (tree.else_do b) brk w
-unfolding with_else with_scoped with_block
+unfolding with_else with_scoped with_block skip free_from next_from declaring leaving
 else_form b brk w = refl
 
 pub define_form : (p : Pos) (e f : Exp) (brk : ℕ) (w : Work) → put (store_instr e w.scope) p (with_exp f (skip (exp_locals e) w)) ≡ with_stat (tree.define p e f) brk w
-unfolding with_stat with_exp put_all
+unfolding with_stat with_exp put_all skip free_from next_from declaring leaving
 define_form p e f brk w = simp (append_assoc, add_assoc, add-zero)
 
 pub declare_function_form : (p : Pos) (n : Name) (f : Exp) (brk : ℕ) (w : Work)
@@ -226,7 +226,7 @@ pub declare_function_form : (p : Pos) (n : Name) (f : Exp) (brk : ℕ) (w : Work
       (put (instr.SetSlot w.scope.free) p
       (put instr.Nil p w))))))
     ≡ with_stat (tree.declare_function p n f) brk w
-unfolding with_stat with_exp put_all
+unfolding with_stat with_exp put_all skip free_from next_from declaring leaving
 declare_function_form p n f brk w = simp (append_assoc, length-append, add_assoc, suc_plus, unary_clauses) (simp one_plus)
 
 pub declare_form : (p : Pos) (ns : List Typed) (es : Exps) (brk : ℕ) (w : Work)
@@ -236,5 +236,5 @@ pub declare_form : (p : Pos) (ns : List Typed) (es : Exps) (brk : ℕ) (w : Work
       (with_list es p 0
       (skip (length ns) w))))
     ≡ with_stat (tree.declare p ns es) brk w
-unfolding with_stat with_list put_all
+unfolding with_stat with_list put_all skip free_from next_from declaring leaving
 declare_form p ns es brk w = simp (append_assoc, add_assoc)
