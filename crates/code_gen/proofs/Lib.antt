@@ -2,3 +2,5 @@ pub mod Forms
 pub mod Lists
 pub mod Scopes
 pub mod Put
+pub mod Cells
+pub mod Values

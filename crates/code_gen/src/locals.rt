@@ -60,8 +60,9 @@ pub fn targets_locals(all: &[Expr]) -> Result<u64, NoMemory>
     Ok(total)
 }
 
+/// How many locals the text of a table's entries declares.
 #[cycle(locals)]
-fn all_entry_locals(all: &[Entry]) -> Result<u64, NoMemory>
+pub fn all_entry_locals(all: &[Entry]) -> Result<u64, NoMemory>
     ensures { IfOk result (λ n. n ≡ entries_locals (entries_of all.now)) }
 {
     let mut total = 0;

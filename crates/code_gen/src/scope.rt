@@ -75,11 +75,8 @@ fn enter_all(own: &mut Vec<(u64, u64)>, count: u64, first: u64, slot: u64) -> Re
 fn own_cells(alloc: Global, own: &[(u64, u64)]) -> Result<List<Capture>, NoMemory>
     ensures { IfOk result (λ captures. captures ≡ map (λ o. capture.Cell o.1) (reverse own.now)) }
 {
-    let mut captures = List::new(alloc);
-    for (_, slot) in own.iter().rev() {
-        captures.push(Capture::Cell(*slot))?;
-    }
-    Ok(captures)
+    let captures: Vec<Capture> = own.iter().rev().map(|o| Capture::Cell(o.1)).collect(alloc)?;
+    Ok(List::from_vec(captures))
 }
 
 /// The cells of captured locals are captured again.

@@ -134,7 +134,6 @@ pub fn block_size(block: &Block) -> Result<u64, NoMemory>
 }
 
 #[cycle(sizes_of_blocks)]
-#[tactic(auto, using(crate::proofs::Lists::targets_long))]
 fn stat_size(stat: &Stat) -> Result<u64, NoMemory>
     ensures { IfOk result (λ n. n ≡ stat_size_of (stat_of stat.now)) }
 {
@@ -143,7 +142,8 @@ fn stat_size(stat: &Stat) -> Result<u64, NoMemory>
         Stat::Break(_) => Ok(1),
         Stat::Assign(_, targets, values) => {
             let stores = sum(1, targets.len() as u64)?;
-            sum(all_size(values.as_slice())?, stores)
+            let total = sum(all_size(values.as_slice())?, stores)?;
+            Ok(total)
         }
         Stat::Call(_, call) => sum(exp_size(call)?, 1),
         Stat::Do(_, block) => block_size(block),

@@ -125,7 +125,7 @@ store_past (tree.name p u s) n sc = local_past (use_in sc u)
 store_past (tree.mark k e) n sc = store_past e n sc
 store_past e n sc = refl
 
-stores_past : (ts : Targets) (p : Pos) (n : ℕ) (sc : Scope) → stores ts p (past n sc) ≡ stores ts p sc
+pub stores_past : (ts : Targets) (p : Pos) (n : ℕ) (sc : Scope) → stores ts p (past n sc) ≡ stores ts p sc
 stores_past tree.no_target p n sc = refl
 stores_past (tree.target e ts) p n sc =
     ap₂ (λ a b. a ++ one b p) (stores_past ts p (exp_locals e) (past n sc) ∙ stores_past ts p n sc ∙ sym (stores_past ts p (exp_locals e) sc)) (store_past e n sc)

@@ -1,8 +1,12 @@
-use Rattle.std.proofs.Common.{rules, ◌≡◌, ℕ, ◌+◌, length, arith}
+use Rattle.std.proofs.Common.{rules, ◌≡◌, ℕ, ◌+◌, length, arith, ap, ◌∙◌}
+use Rattle.lua_tree.specs.Tree as tree
+use Rattle.lua_tree.proofs.Views.{stat_of-Assign}
 use Rattle.lua_tree.specs.View.{exp_of, exps_of, targets_of, stat_of}
 use Rattle.lua_code.specs.Sizes.{exps_size, stat_size, targets_size}
 use Rattle.code_gen.proofs.Lists.{targets_long}
 use Rattle.code_gen.proofs.sizes.+sizes_of_blocks.Goals as goal
 
-pub stat_size-returns-in_ok-all_size-in-Assign : goal.stat_size-returns-in_ok-all_size-in-Assign
-stat_size-returns-in_ok-all_size-in-Assign t c = ?
+pub stat_size-returns-in_ok-total-in-Assign : goal.stat_size-returns-in_ok-total-in-Assign
+stat_size-returns-in_ok-total-in-Assign t c =
+    let seen : stat_of c.args.stat.now ≡ tree.assign c.in-Assign.field-0 (targets_of c.in-Assign.targets) (exps_of c.in-Assign.values) = ap stat_of c.in-Assign.is ∙ stat_of-Assign c.in-Assign.field-0 c.in-Assign.targets c.in-Assign.values in
+    rw seen ?
