@@ -4,3 +4,5 @@ pub mod Scopes
 pub mod Put
 pub mod Cells
 pub mod Values
+pub mod Marked
+pub mod Seen

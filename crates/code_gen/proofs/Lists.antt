@@ -5,6 +5,7 @@ use Rattle.lua_tree.specs.Tree as tree
 use Rattle.lua_tree.specs.Tree.{Exp, Exps, push}
 use Rattle.lua_tree.specs.View.{exp_of, exps_of, targets_of}
 use Rattle.lua_code.specs.Sizes.{exp_size, exps_size, targets_size}
+use Rattle.lua_code.specs.Generated.{target_count}
 use Rattle.code_gen.specs.Work.{is_open}
 
 -- what is still to come, where the last one could give any number of values, or not
@@ -26,3 +27,7 @@ rest_more whole e es = push_size whole (exp_of e) (exps_of es)
 pub targets_long : (ts : List Expr) → targets_size (targets_of ts) ≡ length ts
 targets_long [] = refl
 targets_long (t ∷ ts) = ap (λ n. n + 1) (targets_long ts) ∙ add-one (length ts)
+
+pub targets_counted : (ts : List Expr) → length ts ≡ target_count (targets_of ts)
+targets_counted [] = refl
+targets_counted (t ∷ ts) = sym (ap (λ n. n + 1) (sym (targets_counted ts)) ∙ add-one (length ts))

@@ -40,3 +40,7 @@ entered_step n i x s own new h e =
     let more : x + (i + 1) ≡ x + i + 1 = omega arith in
     let higher : s + (i + 1) ≡ s + i + 1 = omega arith in
     rw (back, fewer, more, higher) refl
+
+pub cells_of_slots : (own : List (ℕ × ℕ)) → map (λ s. capture.Cell s) (map (λ o. o.1) own) ≡ map (λ o. capture.Cell o.1) own
+cells_of_slots [] = refl
+cells_of_slots (o ∷ own) = ap (λ l. capture.Cell o.1 ∷ l) (cells_of_slots own)

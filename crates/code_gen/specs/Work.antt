@@ -154,6 +154,13 @@ finished code sc params vararg slots captures w =
 
 -- ---- statements
 
+abbrev pub is_loop : Stat → Bool
+is_loop (tree.while p e b) = true
+is_loop (tree.repeat p b e) = true
+is_loop (tree.count p n a b c d) = true
+is_loop (tree.each p ns es b) = true
+is_loop s = false
+
 unfoldable pub with_stat : Stat → ℕ → Work → Work
 with_stat s brk w = grown (stat_code s w.scope (base w) (length w.code) brk) (stat_protos s w.scope (base w)) (behind_stat s w.scope) w
 

@@ -14,7 +14,7 @@ use crate::sums::sum;
 use crate::writer::Writer;
 use lua_code::Instr;
 use lua_tree::{Block, Body, Expr, Use};
-use tl_base::{Bytes, NoMemory, Pos};
+use tl_base::{NoMemory, Pos};
 
 /// The instruction that gives a field: one of the library, where it is one.
 fn field_instr(scope: &Scope<'_>, object: &Expr) -> Instr
@@ -31,7 +31,7 @@ fn field_instr(scope: &Scope<'_>, object: &Expr) -> Instr
 }
 
 /// The instruction that stores into a target.
-pub fn store_instr(scope: &Scope<'_>, target: &Expr) -> Instr
+fn store_instr(scope: &Scope<'_>, target: &Expr) -> Instr
     ensures { result ≡ store_instr_in (exp_of target.now) scope.now }
 {
     match target {
@@ -48,12 +48,25 @@ fn truth_instr(truth: bool) -> Instr
 }
 
 impl<'a> Writer<'a> {
+    /// The instruction that gives a field of this object.
+    fn field(&self, object: &Expr) -> Instr
+        ensures { result ≡ field_instr_in (exp_of object.now) self.now.scope }
+    {
+        field_instr(&self.scope, object)
+    }
+
+    /// The instruction that stores into this target.
+    pub fn store(&self, target: &Expr) -> Instr
+        ensures { result ≡ store_instr_in (exp_of target.now) self.now.scope }
+    {
+        store_instr(&self.scope, target)
+    }
+
     /// All the values of an expression, where it can give any number of them, else the one. Says which.
     #[cycle(writing)]
-    #[tactic(auto, using(crate::proofs::Forms::Rules::expressions))]
     pub fn values(&mut self, e: &Expr) -> Result<bool, NoMemory>
         ensures code { OnOk result (self.new ≡ with_values (exp_of e.now) self.old) }
-        ensures open { IfOk result (λ open. open ≡ is_open (exp_of e.now)) }
+        ensures many { IfOk result (λ many. many ≡ is_open (exp_of e.now)) }
     {
         match e {
             Expr::Nil(pos) => {
@@ -69,7 +82,7 @@ impl<'a> Writer<'a> {
                 Ok(false)
             }
             Expr::Str(pos, text) => {
-                let copy = Bytes::from_slice(self.alloc, text.as_slice())?;
+                let copy = self.copy_of(text)?;
                 self.put(Instr::Str(copy), *pos)?;
                 Ok(false)
             }
@@ -83,7 +96,7 @@ impl<'a> Writer<'a> {
                 Ok(false)
             }
             Expr::Name(pos, number, _) => {
-                let instr = self.scope.read(*number);
+                let instr = self.read(*number);
                 self.put(instr, *pos)?;
                 Ok(false)
             }
@@ -92,7 +105,7 @@ impl<'a> Writer<'a> {
                 Ok(false)
             }
             Expr::Field(pos, object, _) => {
-                let instr = field_instr(&self.scope, object.get());
+                let instr = self.field(object.get());
                 self.skip(exp_locals(object.get())?)?;
                 self.put(instr, *pos)?;
                 Ok(false)
@@ -182,8 +195,8 @@ impl<'a> Writer<'a> {
     {
         let params = body.params.len() as u64;
         let slots = sum(params, block_slots(&body.block)?)?;
-        let captures = self.scope.captures(self.alloc)?;
-        let inner = self.scope.inside(self.alloc, params)?;
+        let captures = self.captures()?;
+        let inner = self.inside(params)?;
         let outer = self.begin(inner);
         self.body(params, pos, &body.block)?;
         let header = Header {

@@ -71,12 +71,28 @@ fn enter_all(own: &mut Vec<(u64, u64)>, count: u64, first: u64, slot: u64) -> Re
     Ok(())
 }
 
+/// The slots of a function's own locals, the innermost first.
+fn own_slots(alloc: Global, own: &[(u64, u64)]) -> Result<Vec<u64>, NoMemory>
+    ensures { IfOk result (λ slots. slots.items ≡ map (λ o. o.1) (reverse own.now)) }
+{
+    let mut slots = Vec::new(alloc);
+    for (_, slot) in own.iter().rev() {
+        slots.push(*slot)?;
+    }
+    Ok(slots)
+}
+
 /// The cells of a function's own locals, the innermost first.
+#[tactic(auto, using(crate::proofs::Scopes::cells_of_slots))]
 fn own_cells(alloc: Global, own: &[(u64, u64)]) -> Result<List<Capture>, NoMemory>
     ensures { IfOk result (λ captures. captures ≡ map (λ o. capture.Cell o.1) (reverse own.now)) }
 {
-    let captures: Vec<Capture> = own.iter().rev().map(|o| Capture::Cell(o.1)).collect(alloc)?;
-    Ok(List::from_vec(captures))
+    let slots = own_slots(alloc, own)?;
+    let mut captures = List::new(alloc);
+    for slot in &slots {
+        captures.push(Capture::Cell(*slot))?;
+    }
+    Ok(captures)
 }
 
 /// The cells of captured locals are captured again.

@@ -1,15 +1,16 @@
-ghost use Rattle.std.specs.Prelude.{◌≡◌, ◌+◌, ◌-◌, length, map, reverse, OnOk, IfOk};
+ghost use Rattle.std.specs.Prelude.{◌≡◌, ◌+◌, ◌-◌, length, true, OnOk, IfOk};
 ghost use Rattle.lua_tree.specs.View.{exp_of, exps_of, stat_of, block_of, clauses_of, targets_of};
 ghost use Rattle.std.specs.Option.{option_map};
 ghost use Rattle.lua_tree.specs.View.{step_from, else_from};
 ghost use Rattle.lua_meaning.specs.Trees.{first_place as first_place_of};
 ghost use Rattle.lua_code.specs.Generated.{stores as stores_of, iterate_code, step_place};
-ghost use Rattle.code_gen.specs.Work.{put_all, put as put_one, free_from, with_scoped, with_block, with_step, with_else, with_stat, with_clauses, with_count_begun, with_each_begun};
+ghost use Rattle.lua_meaning.specs.Locals.{exp_locals as exp_locals_of};
+ghost use Rattle.lua_code.specs.Sizes.{block_size as block_size_of, exp_size as exp_size_of, clauses_size as clauses_size_of, else_size};
+ghost use Rattle.code_gen.specs.Work.{is_loop, skip, put_all, put as put_one, free_from, with_scoped, with_block, with_step, with_else, with_stat, with_clauses, with_count_begun, with_each_begun};
 ghost use Rattle.lua_code.specs.declared.code.Instr.TheVariants as instr;
 
-use crate::expressions::store_instr;
 use crate::locals::{exp_locals, targets_locals};
-use crate::sizes::{all_size, block_size, clauses_size, exp_size};
+use crate::sizes::{block_size, clauses_size, exp_size};
 use crate::sums::sum;
 use crate::writer::Writer;
 use lua_code::Instr;
@@ -34,7 +35,7 @@ impl<'a> Writer<'a> {
     {
         for i in 0..targets.len() {
             let target = &targets[targets.len() - 1 - i];
-            let instr = store_instr(&self.scope, target);
+            let instr = self.store(target);
             self.put(instr, pos)?;
         }
         Ok(())
@@ -50,25 +51,58 @@ impl<'a> Writer<'a> {
         Ok(())
     }
 
-    /// A turn of a numeric `for` begins, whose variable is this local. A step of 0 is found at the place of the step.
-    fn begin_count(&mut self, slot: u64, local: u64, behind: u64, step: Pos, pos: Pos) -> Result<(), NoMemory>
-        ensures { OnOk result (self.new ≡ with_count_begun slot local behind step pos self.old) }
+    /// A `while` begins: to its condition, and to a turn. Gives the place behind the loop.
+    fn begin_while(&mut self, condition: &Expr, block: &Block, pos: Pos) -> Result<u64, NoMemory>
+        ensures code { OnOk result (self.new ≡ skip (exp_locals_of (exp_of condition.now)) (put_one instr.Turn pos (put_one (instr.Jump (length self.old.code + 2 + block_size_of (block_of block.now))) pos self.old))) }
+        ensures exit { IfOk result (λ n. n ≡ length self.old.code + 2 + block_size_of (block_of block.now) + exp_size_of (exp_of condition.now) + 1) }
+    {
+        let test = sum(sum(self.place(), 2)?, block_size(block)?)?;
+        let behind = sum(sum(test, exp_size(condition)?)?, 1)?;
+        let count = exp_locals(condition)?;
+        self.put(Instr::Jump(test), pos)?;
+        self.put(Instr::Turn, pos)?;
+        self.skip(count)?;
+        Ok(behind)
+    }
+
+    /// A `repeat` begins. Gives the place behind the loop.
+    fn begin_repeat(&mut self, block: &Block, condition: &Expr, pos: Pos) -> Result<u64, NoMemory>
+        ensures code { OnOk result (self.new ≡ put_one instr.Turn pos self.old) }
+        ensures exit { IfOk result (λ n. n ≡ length self.old.code + 1 + block_size_of (block_of block.now) + exp_size_of (exp_of condition.now) + 1) }
+    {
+        let test = sum(sum(self.place(), 1)?, block_size(block)?)?;
+        let behind = sum(sum(test, exp_size(condition)?)?, 1)?;
+        self.put(Instr::Turn, pos)?;
+        Ok(behind)
+    }
+
+    /// The turns of a numeric `for` begin, whose variable is this local. A step of 0 is found at the place of the step. Gives the place behind the loop.
+    fn begin_count(&mut self, slot: u64, local: u64, step: Pos, block: &Block, pos: Pos) -> Result<u64, NoMemory>
+        ensures code { OnOk result (self.new ≡ with_count_begun slot local (length self.old.code + 2 + 4 + block_size_of (block_of block.now) + 1) step pos (put_one (instr.SetSlot (slot + 2)) pos self.old)) }
+        ensures exit { IfOk result (λ n. n ≡ length self.old.code + 2 + 4 + block_size_of (block_of block.now) + 1) }
     {
         let variable = sum(slot, 3)?;
+        let inner = sum(sum(self.place(), 2)?, 4)?;
+        let behind = sum(sum(inner, block_size(block)?)?, 1)?;
+        self.put(Instr::SetSlot(sum(slot, 2)?), pos)?;
         self.put(Instr::ForPrep(slot, behind), step)?;
         self.put(Instr::Turn, pos)?;
         self.put(Instr::GetSlot(slot), pos)?;
         self.put(Instr::SetSlot(variable), pos)?;
         self.put(Instr::NewCell(variable), pos)?;
         self.set_free(variable);
-        self.declare(1, local)
+        self.declare(1, local)?;
+        Ok(behind)
     }
 
-    /// A turn of a generic `for` begins, whose variables are so many locals from one on.
-    fn begin_each(&mut self, slot: u64, count: u64, local: u64, test: u64, pos: Pos) -> Result<(), NoMemory>
-        ensures { OnOk result (self.new ≡ with_each_begun slot count local test pos self.old) }
+    /// The turns of a generic `for` begin, whose variables are so many locals from one on. Gives the place where the iterator is called.
+    fn begin_each(&mut self, slot: u64, count: u64, local: u64, block: &Block, pos: Pos) -> Result<u64, NoMemory>
+        ensures code { OnOk result (self.new ≡ with_each_begun slot count local (length self.old.code + 5 + 2 + count + count + block_size_of (block_of block.now)) pos self.old) }
+        ensures test { IfOk result (λ n. n ≡ length self.old.code + 5 + 2 + count + count + block_size_of (block_of block.now)) }
     {
         let variables = sum(slot, 3)?;
+        let inner = sum(sum(sum(sum(self.place(), 5)?, 2)?, count)?, count)?;
+        let test = sum(inner, block_size(block)?)?;
         self.put(Instr::Spread(3), pos)?;
         self.put(Instr::SetSlot(sum(slot, 2)?), pos)?;
         self.put(Instr::SetSlot(sum(slot, 1)?), pos)?;
@@ -78,7 +112,22 @@ impl<'a> Writer<'a> {
         self.put(Instr::Spread(count), pos)?;
         self.begin_locals(variables, count, pos)?;
         self.set_free(variables);
-        self.declare(count, local)
+        self.declare(count, local)?;
+        Ok(test)
+    }
+
+    /// The clauses and the last block of an `if` begin. Gives the place behind it.
+    fn end_of_if(&self, clauses: &[Clause], otherwise: &Option<Block>) -> Result<u64, NoMemory>
+        ensures { IfOk result (λ n. n ≡ length self.now.code + clauses_size_of (clauses_of clauses.now) + else_size (else_from (option_map block_of otherwise.now))) }
+    {
+        let before = sum(self.place(), clauses_size(clauses)?)?;
+        match otherwise {
+            Some(block) => {
+                let end = sum(before, block_size(block)?)?;
+                Ok(end)
+            }
+            None => Ok(before),
+        }
     }
 
     /// The iterator of a generic `for` is called, at a place of its own, and the loop goes back to its turn unless the first result is nil.
@@ -209,83 +258,18 @@ impl<'a> Writer<'a> {
                 self.scoped(block, exit)?;
                 Ok(())
             }
-            Stat::While(pos, condition, block) => {
-                let start = self.place();
-                let next = self.next();
-                let test = sum(sum(start, 2)?, block_size(block)?)?;
-                let behind = sum(sum(test, exp_size(condition)?)?, 1)?;
-                self.put(Instr::Jump(test), *pos)?;
-                self.put(Instr::Turn, *pos)?;
-                self.skip(exp_locals(condition)?)?;
-                self.scoped(block, behind)?;
-                let passed = self.next();
-                self.set_next(next);
-                self.exp(condition)?;
-                self.put(Instr::JumpIf(sum(start, 1)?), *pos)?;
-                self.set_next(passed);
-                Ok(())
-            }
-            Stat::Repeat(pos, block, condition) => {
-                let start = self.place();
-                let count = self.count();
-                let free = self.free();
-                let inner = sum(sum(start, 1)?, block_size(block)?)?;
-                let behind = sum(sum(inner, exp_size(condition)?)?, 1)?;
-                self.put(Instr::Turn, *pos)?;
-                self.block(block, behind)?;
-                self.exp(condition)?;
-                self.put(Instr::JumpIfNot(start), *pos)?;
-                self.leave(count, free);
-                Ok(())
-            }
             Stat::If(pos, clauses, otherwise) => {
-                let start = self.place();
-                let last = match otherwise {
-                    Some(block) => block_size(block)?,
-                    None => 0,
-                };
-                let end = sum(sum(start, clauses_size(clauses.as_slice())?)?, last)?;
+                let end = self.end_of_if(clauses.as_slice(), otherwise)?;
                 self.clauses(clauses.as_slice(), *pos, end, exit)?;
                 self.otherwise(otherwise, exit)?;
                 Ok(())
             }
-            Stat::NumericFor(pos, _, first, limit, step, block) => {
-                let slot = self.free();
-                let count = self.count();
-                let local = self.next();
-                self.skip(1)?;
-                self.exp(first)?;
-                self.end_bound(first.pos(), slot, *pos)?;
-                self.exp(limit)?;
-                self.end_bound(limit.pos(), sum(slot, 1)?, *pos)?;
-                let place = self.step(step, *pos)?;
-                self.put(Instr::SetSlot(sum(slot, 2)?), *pos)?;
-                let turn = sum(self.place(), 1)?;
-                let behind = sum(sum(turn, block_size(block)?)?, 5)?;
-                self.begin_count(slot, local, behind, place, *pos)?;
-                self.scoped(block, behind)?;
-                self.put(Instr::ForStep(slot, turn), *pos)?;
-                self.leave(count, slot);
-                Ok(())
-            }
-            Stat::GenericFor(pos, names, values, block) => {
-                let slot = self.free();
-                let count = self.count();
-                let local = self.next();
-                let variables = names.len() as u64;
-                self.skip(variables)?;
-                self.list(*pos, values.as_slice())?;
-                let turn = sum(self.place(), 5)?;
-                let inner = sum(sum(sum(turn, 2)?, variables)?, variables)?;
-                let test = sum(inner, block_size(block)?)?;
-                self.begin_each(slot, variables, local, test, *pos)?;
-                self.scoped(block, sum(test, 13)?)?;
-                self.iterate(slot, turn, *pos, first_place(*pos, values.as_slice()))?;
-                self.leave(count, slot);
+            Stat::While(..) | Stat::Repeat(..) | Stat::NumericFor(..) | Stat::GenericFor(..) => {
+                self.repetition(stat, exit)?;
                 Ok(())
             }
             Stat::Function(pos, target, function) => {
-                let instr = store_instr(&self.scope, target);
+                let instr = self.store(target);
                 self.skip(exp_locals(target)?)?;
                 self.exp(function)?;
                 self.put(instr, *pos)?;
@@ -319,6 +303,83 @@ impl<'a> Writer<'a> {
                 self.declare(count, local)?;
                 Ok(())
             }
+        }
+    }
+
+    /// A loop. Other statements are passed over.
+    #[cycle(writing)]
+    fn repetition(&mut self, stat: &Stat, exit: u64) -> Result<(), NoMemory>
+        ensures { OnOk result (is_loop (stat_of stat.now) ≡ true → self.new ≡ with_stat (stat_of stat.now) exit self.old) }
+    {
+        match stat {
+            Stat::While(pos, condition, block) => {
+                let next = self.next();
+                let turn = sum(self.place(), 1)?;
+                let behind = self.begin_while(condition, block, *pos)?;
+                self.scoped(block, behind)?;
+                let passed = self.next();
+                self.set_next(next);
+                self.exp(condition)?;
+                self.put(Instr::JumpIf(turn), *pos)?;
+                self.set_next(passed);
+                Ok(())
+            }
+            Stat::Repeat(pos, block, condition) => {
+                let start = self.place();
+                let count = self.count();
+                let free = self.free();
+                let behind = self.begin_repeat(block, condition, *pos)?;
+                self.block(block, behind)?;
+                self.exp(condition)?;
+                self.put(Instr::JumpIfNot(start), *pos)?;
+                self.leave(count, free);
+                Ok(())
+            }
+            Stat::NumericFor(pos, _, first, limit, step, block) => {
+                let slot = self.free();
+                let count = self.count();
+                let local = self.next();
+                let second = sum(slot, 1)?;
+                self.skip(1)?;
+                self.exp(first)?;
+                self.end_bound(first.pos(), slot, *pos)?;
+                self.exp(limit)?;
+                self.end_bound(limit.pos(), second, *pos)?;
+                let place = self.step(step, *pos)?;
+                let turn = sum(self.place(), 2)?;
+                let behind = self.begin_count(slot, local, place, block, *pos)?;
+                self.scoped(block, behind)?;
+                self.put(Instr::ForStep(slot, turn), *pos)?;
+                self.leave(count, slot);
+                Ok(())
+            }
+            Stat::GenericFor(pos, names, values, block) => {
+                let slot = self.free();
+                let count = self.count();
+                let local = self.next();
+                let variables = names.len() as u64;
+                self.skip(variables)?;
+                self.list(*pos, values.as_slice())?;
+                let turn = sum(self.place(), 5)?;
+                let test = self.begin_each(slot, variables, local, block, *pos)?;
+                let behind = sum(test, 13)?;
+                self.scoped(block, behind)?;
+                self.iterate(slot, turn, *pos, first_place(*pos, values.as_slice()))?;
+                self.leave(count, slot);
+                Ok(())
+            }
+            Stat::Empty(_)
+            | Stat::Assign(..)
+            | Stat::Call(..)
+            | Stat::Break(_)
+            | Stat::Do(..)
+            | Stat::If(..)
+            | Stat::Function(..)
+            | Stat::Method(..)
+            | Stat::LocalFunction(..)
+            | Stat::Local(..)
+            | Stat::Interface(..)
+            | Stat::Alias(..) => Ok(()),
         }
     }
 }

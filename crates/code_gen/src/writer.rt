@@ -1,6 +1,6 @@
 ghost use Rattle.std.specs.Prelude.{◌≡◌, ◌+◌, ◌++◌, length, OnOk, IfOk};
 ghost use Rattle.lua_tree.specs.View.{exp_of};
-ghost use Rattle.lua_code.specs.Generated.{new_cells, set_slots, begin_locals, module_scope};
+ghost use Rattle.lua_code.specs.Generated.{new_cells, set_slots, begin_locals, module_scope, read_use, use_in, captures_in, inside};
 ghost use Rattle.lua_code.specs.Sizes.{exp_size as exp_size_of};
 ghost use Rattle.code_gen.specs.Work.{put as put_one, put_all, skip as skipped, free_from, next_from, declaring, leaving, names_in, with_count_begun, with_each_begun};
 ghost use Rattle.code_gen.specs.Pieces.{between as between_them, behind as behind_both};
@@ -8,11 +8,11 @@ ghost use Rattle.code_gen.specs.Pieces.{between as between_them, behind as behin
 use crate::scope::Scope;
 use crate::sizes::exp_size;
 use crate::sums::sum;
-use lua_code::{Instr, Proto};
+use lua_code::{Capture, Instr, Proto};
 use lua_tree::{BinaryOperator, Expr, Scoped};
 use std::alloc::Global;
 use std::marker::Model;
-use tl_base::{List, NoMemory, Pos};
+use tl_base::{Bytes, List, NoMemory, Pos};
 
 /// The code of a program while it is written.
 #[derive(Drop)]
@@ -62,6 +62,34 @@ impl<'a> Writer<'a> {
         ensures { result ≡ length self.now.scope.own }
     {
         self.scope.count()
+    }
+
+    /// A copy of a text.
+    pub fn copy_of(&self, text: &Bytes) -> Result<Bytes, NoMemory>
+        ensures { IfOk result (λ copy. copy ≡ text.now) }
+    {
+        Bytes::from_slice(self.alloc, text.as_slice())
+    }
+
+    /// The instruction that gives the value of a use.
+    pub fn read(&self, number: u32) -> Instr
+        ensures { result ≡ read_use self.now.scope (use_in self.now.scope number) }
+    {
+        self.scope.read(number)
+    }
+
+    /// What a closure captures here.
+    pub fn captures(&self) -> Result<List<Capture>, NoMemory>
+        ensures { IfOk result (λ captures. captures ≡ captures_in self.now.scope) }
+    {
+        self.scope.captures(self.alloc)
+    }
+
+    /// The scope of a function's body, with so many parameters.
+    pub fn inside(&self, params: u64) -> Result<Scope<'a>, NoMemory>
+        ensures { IfOk result (λ inner. inner ≡ inside params self.now.scope) }
+    {
+        self.scope.inside(self.alloc, params)
     }
 
     /// One instruction more.
