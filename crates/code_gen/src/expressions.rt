@@ -1,6 +1,7 @@
 ghost use Rattle.std.specs.Prelude.{◌≡◌, ◌+◌, OnOk, IfOk};
 ghost use Rattle.lua_tree.specs.View.{exp_of, exps_of, function_of, block_of};
 ghost use Rattle.lua_code.specs.Generated.{truth_instr as truth_instr_of, field_instr as field_instr_in, store_instr as store_instr_in};
+ghost use Rattle.lua_code.specs.declared.code.Instr.TheVariants as instr;
 ghost use Rattle.lua_code.specs.Sizes.{function_inner};
 ghost use Rattle.code_gen.specs.Work.{is_open, with_values, with_exp, with_list, with_function, with_body, base};
 
@@ -41,6 +42,12 @@ fn store_instr(scope: &Scope<'_>, target: &Expr) -> Instr
     }
 }
 
+fn int_instr(number: &i64) -> Instr
+    ensures { result ≡ instr.Int number.now }
+{
+    Instr::Int(*number)
+}
+
 fn truth_instr(truth: bool) -> Instr
     ensures { result ≡ truth_instr_of truth }
 {
@@ -78,7 +85,7 @@ impl<'a> Writer<'a> {
                 Ok(false)
             }
             Expr::Int(pos, number) => {
-                self.put(Instr::Int(*number), *pos)?;
+                self.put(int_instr(number), *pos)?;
                 Ok(false)
             }
             Expr::Str(pos, text) => {

@@ -237,7 +237,9 @@ impl<'a> Writer<'a> {
         ensures { OnOk result (self.new ≡ with_stat (stat_of stat.now) exit self.old) }
     {
         match stat {
-            Stat::Empty(_) | Stat::Interface(..) | Stat::Alias(..) => Ok(()),
+            Stat::Empty(_) => Ok(()),
+            Stat::Interface(_, _, _) => Ok(()),
+            Stat::Alias(_, _, _) => Ok(()),
             Stat::Assign(pos, targets, values) => {
                 self.skip(targets_locals(targets.as_slice())?)?;
                 self.list(*pos, values.as_slice())?;

@@ -139,3 +139,22 @@ assign_written p ts es brk w =
     let spread : Work = put (instr.Spread (target_count ts)) p (with_list es p 0 (skip (targets_locals ts) w)) in
     ap (λ c. put_all c spread) (stores_past ts p (exps_locals es) (past (targets_locals ts) w.scope) ∙ stores_past ts p (targets_locals ts) w.scope)
     ∙ assign_form p ts es brk w
+
+-- a numeric `for` from its slot, its variable, and how many locals are in scope before it
+abbrev pub count_at : Work → Pos → Exp → Exp → Step → Block → ℕ → ℕ → ℕ → Work
+count_at w p a b c d count slot x =
+    let begun : Work = with_step c p (with_bound b (slot + 1) p (with_bound a slot p (skip 1 w))) in
+    leaving count slot
+    (put (instr.ForStep slot (length begun.code + 2)) p
+    (with_scoped d (length begun.code + 2 + 4 + block_size d + 1)
+    (with_count_begun slot x (length begun.code + 2 + 4 + block_size d + 1) (step_place c p) p
+    (put (instr.SetSlot (slot + 2)) p begun))))
+
+-- and a generic one, also from how many variables it has and the place of its call
+abbrev pub each_at : Work → Pos → Exps → Block → ℕ → ℕ → ℕ → ℕ → Pos → Work
+each_at w p es d count slot x n q =
+    let listed : Work = with_list es p 0 (skip n w) in
+    leaving count slot
+    (put_all (iterate_code slot (length listed.code + 5) p q)
+    (with_scoped d (length listed.code + 5 + 2 + n + n + block_size d + 13)
+    (with_each_begun slot n x (length listed.code + 5 + 2 + n + n + block_size d) p listed)))

@@ -1,4 +1,4 @@
-use Rattle.std.proofs.Common.{◌≡◌, refl, sym, ap, ap₂, ◌∙◌, ℕ, ◌+◌, ◌≤◌, length, drop, map, List, [], ◌∷◌, Option, None, Some, true, false, arith}
+use Rattle.std.proofs.Common.{◌≡◌, refl, sym, ap, ap₂, ◌∙◌, ℕ, ◌+◌, ◌≤◌, ◌<◌, length, drop, length-drop, map, List, [], ◌∷◌, Option, None, Some, true, false, arith}
 use Rattle.std.specs.Option.{option_map, is_some}
 use Rattle.std.proofs.lemmas.List.{drop_all}
 use Rattle.lua_tree.specs.declared.syntax.Block.{out-Block}
@@ -14,11 +14,11 @@ use Rattle.lua_code.specs.Generated.{field_instr, store_instr, stores, iterate_c
 use Rattle.lua_code.specs.Sizes.{function_inner, clauses_size, else_size, block_size, block_slots, exp_size, operator_slots}
 use Rattle.lua_code.specs.declared.code.Instr.TheVariants as instr
 use Rattle.code_gen.specs.Pieces.{between, behind}
-use Rattle.code_gen.specs.Work.{Work, base, is_loop, skip, put_all, put, free_from, next_from, declaring, leaving, with_exp, with_multi, with_values, with_list, with_function, with_body, at_work, finished, with_scoped, with_block, with_step, with_else, with_stat, with_clauses, with_count_begun, with_each_begun, with_bound}
+use Rattle.code_gen.specs.Work.{Work, base, is_open, is_loop, skip, put_all, put, free_from, next_from, declaring, leaving, with_exp, with_multi, with_values, with_list, with_function, with_body, at_work, finished, with_scoped, with_block, with_step, with_else, with_stat, with_clauses, with_count_begun, with_each_begun, with_bound}
 use Rattle.code_gen.proofs.Forms.Expressions.{nothing_form, truth_form, integer_form, text_form, name_form, field_form, index_form, table_form, paren_form, function_form, unary_form, vararg_form, call_form, method_form, marked_form, list_none, no_step_form, step_form}
 use Rattle.code_gen.proofs.Forms.Statements.{scoped_form, finish_form, returns_form, next_form, empty_form, interface_form, alias_form, define_method_form, assign_form, run_form, leave_form, scope_form, repeat_form, choose_form, no_clause_form, no_else_form, else_form, define_form, declare_function_form, declare_form}
 use Rattle.code_gen.proofs.Forms.Functions.{function_written, function_number}
-use Rattle.code_gen.proofs.Forms.Numbers.{binary_written, while_written, assign_written, clause_written, count_written, each_written}
+use Rattle.code_gen.proofs.Forms.Numbers.{binary_written, while_written, assign_written, clause_written, count_written, each_written, count_at, each_at}
 use Rattle.code_gen.proofs.Values.{inner_written, last_written, open_written}
 use Rattle.code_gen.proofs.Lists.{targets_counted}
 use Rattle.code_gen.proofs.Seen.{body_seen, clause_seen, return_seen, item_seen, values_seen, stat_seen}
@@ -40,7 +40,7 @@ values-returns-in_ok-put-in-Bool-clause-code t c =
 pub values-returns-in_ok-put-in-Int-clause-code : goal.values-returns-in_ok-put-in-Int-clause-code
 values-returns-in_ok-put-in-Int-clause-code t c =
     values_seen (exp_of c.args.e.now) (tree.integer c.in-Int.pos c.in-Int.number) c.args.self.now _ (ap exp_of c.in-Int.is ∙ exp_of-Int c.in-Int.pos c.in-Int.number)
-    (c.in_ok-put-in-Int.ensures ∙ integer_form c.in-Int.pos c.in-Int.number c.args.self.now)
+    (c.in_ok-put-in-Int.ensures ∙ ap (λ i. put i c.in-Int.pos c.args.self.now) c.int_instr.ensures ∙ integer_form c.in-Int.pos c.in-Int.number c.args.self.now)
 
 pub values-returns-in_ok-put-in-Str-clause-code : goal.values-returns-in_ok-put-in-Str-clause-code
 values-returns-in_ok-put-in-Str-clause-code t c =
@@ -97,7 +97,7 @@ values-returns-in_ok-put-in-Call-clause-code t c =
     let one = c.in_ok-exp-in-Call.ensures ∙ ap (λ z. with_exp (exp_of z) c.args.self.now) c.get-in-Call.ensures in
     values_seen (exp_of c.args.e.now) (tree.one_of (tree.call c.in-Call.pos f es)) c.args.self.now _ (ap exp_of c.in-Call.is ∙ exp_of-Call c.in-Call.pos c.in-Call.callee c.in-Call.arguments)
     (c.in_ok-put-in-Call.ensures
-    ∙ ap (λ v. put instr.Call c.in-Call.pos v) (c.in_ok-list-in-Call.ensures ∙ ap₂ (λ z v. with_list (exps_of z) c.in-Call.pos 0 v) c.as_slice-in-Call.ensures one)
+    ∙ ap (λ v. put instr.Call c.in-Call.pos v) (c.in_ok-list-in-Call.ensures ∙ ap₂ (λ z v. with_list (exps_of z) c.in-Call.pos 0 v) c.as_slice.ensures one)
     ∙ call_form c.in-Call.pos f es c.args.self.now)
 
 pub values-returns-in_ok-put-in-Method-clause-code : goal.values-returns-in_ok-put-in-Method-clause-code
@@ -157,9 +157,6 @@ values-returns-in_ok-put-in-Mark-clause-code t c =
 
 -- ---- lists of values
 
-pub list-overflow_add-count : goal.list-overflow_add-count
-list-overflow_add-count t c = ?
-
 pub list-returns : goal.list-returns
 list-returns t c =
     let e : drop c.loop-e.e-index c.args.values.now ≡ [] = drop_all c.loop-e.e-index c.args.values.now c.loop-e-test.false in
@@ -170,18 +167,81 @@ list-returns t c =
     ∙ c.loop-e.invariant.0
 
 pub list-returns-then-branch : goal.list-returns-then-branch
-list-returns-then-branch t c = ?
+list-returns-then-branch t c =
+    let xs = c.args.values.now in
+    let i = c.loop-e.e-index in
+    let x = c.e-item.result in
+    let v = c.loop-e.self in
+    let count = c.loop-e.invariant.1 in
+    let last : drop (i + 1) xs ≡ [] = drop_all (i + 1) xs (omega (arith, count, c.if-count-values.false)) in
+    let many : is_open (exp_of x) ≡ true = sym c.in_ok-values.ensures.many ∙ c.if-branch.true in
+    c.in_ok-put.ensures
+    ∙ ap₂ (λ n u. put (instr.Cons n) c.args.pos u) count c.in_ok-values.ensures.code
+    ∙ open_written x c.args.pos i v many
+    ∙ ap (λ l. with_list (exps_of l) c.args.pos i v) (sym (item_seen xs i x c.loop-e-test.true c.e-item.is ∙ ap (λ l. x ∷ l) last))
+    ∙ c.loop-e.invariant.0
 
 pub list-loop-e-preserved : goal.list-loop-e-preserved
-list-loop-e-preserved t c = ?
+list-loop-e-preserved t c =
+    let xs = c.args.values.now in
+    let i = c.loop-e.e-index in
+    let x = c.e-item.result in
+    let v = c.loop-e.self in
+    let count = c.loop-e.invariant.1 in
+    let seen = item_seen xs i x c.loop-e-test.true c.e-item.is in
+    elim c.if-count-values.branch [
+      list-then-count-values+in_ok-exp w ↦
+        let some : 0 < length (drop (i + 1) xs) = omega (arith, count, w.if-count-values.true, length-drop (i + 1) xs) in
+        (ap (λ u. with_list (exps_of (drop (i + 1) xs)) c.args.pos (i + 1) u) (w.self-is ∙ w.in_ok-exp.ensures)
+        ∙ inner_written x (drop (i + 1) xs) c.args.pos i v some
+        ∙ ap (λ l. with_list (exps_of l) c.args.pos i v) (sym seen)
+        ∙ c.loop-e.invariant.0
+        , ap (λ n. n + 1) count)
+    | list-else-count-values+in_ok-values+else-branch w ↦
+        let last : drop (i + 1) xs ≡ [] = drop_all (i + 1) xs (omega (arith, count, w.if-count-values.false)) in
+        let closed : is_open (exp_of x) ≡ false = sym w.in_ok-values.ensures.many ∙ w.if-branch.false in
+        (ap (λ u. with_list (exps_of (drop (i + 1) xs)) c.args.pos (i + 1) u) (w.self-is ∙ w.in_ok-values.ensures.code)
+        ∙ ap (λ l. with_list (exps_of l) c.args.pos (i + 1) (with_values (exp_of x) v)) last
+        ∙ last_written x c.args.pos i v closed
+        ∙ ap (λ l. with_list (exps_of l) c.args.pos i v) (sym (seen ∙ ap (λ l. x ∷ l) last))
+        ∙ c.loop-e.invariant.0
+        , ap (λ n. n + 1) count)
+    ]
 
 -- ---- functions
 
 pub function-returns-clause-code : goal.function-returns-clause-code
-function-returns-clause-code t c = ?
+function-returns-clause-code t c =
+    let w : Work = c.args.self.now in
+    let f = out-Body c.args.body.now in
+    let b : tree.Block = block_of f.block in
+    let p = c.args.pos in
+    let n = c.len-params.result in
+    let begun = c.begin-outer.ensures.work ∙ ap (λ sc. at_work [] sc w) c.in_ok-inner.ensures in
+    let body = c.in_ok-body.ensures ∙ ap (λ v. with_body n b p v) begun in
+    let slots = c.in_ok-slots.ensures ∙ ap (λ k. n + k) c.in_ok-block_slots.ensures in
+    c.in_ok-number.ensures.work
+    ∙ ap₂ (λ oc os. finished oc os n c.is_some.result c.in_ok-slots.slots c.in_ok-captures.captures c.body.new.self) c.begin-outer.ensures.code c.begin-outer.ensures.scope
+    ∙ ap₂ (λ k v. finished w.code w.scope n c.is_some.result c.in_ok-slots.slots k v) c.in_ok-captures.ensures body
+    ∙ ap₂ (λ r s. finished w.code w.scope n r s (captures_in w.scope) (with_body n b p (at_work [] (inside n w.scope) w))) c.is_some.ensures slots
+    ∙ ap (λ n. finished w.code w.scope n (is_some f.rest) (n + block_slots b) (captures_in w.scope) (with_body n b p (at_work [] (inside n w.scope) w))) c.len-params.ensures
+    ∙ function_written f.params f.rest f.results b p w
+    ∙ ap (λ z. with_function z p w) (sym (body_seen c.args.body.now))
 
 pub function-returns-clause-number : goal.function-returns-clause-number
-function-returns-clause-number t c = ?
+function-returns-clause-number t c =
+    let w : Work = c.args.self.now in
+    let f = out-Body c.args.body.now in
+    let b : tree.Block = block_of f.block in
+    let p = c.args.pos in
+    let n = c.len-params.result in
+    let begun = c.begin-outer.ensures.work ∙ ap (λ sc. at_work [] sc w) c.in_ok-inner.ensures in
+    let body = c.in_ok-body.ensures ∙ ap (λ v. with_body n b p v) begun in
+    c.in_ok-number.ensures.number
+    ∙ ap (λ v. base v) body
+    ∙ ap (λ n. base (with_body n b p (at_work [] (inside n w.scope) w))) c.len-params.ensures
+    ∙ function_number f.params f.rest f.results b p w
+    ∙ ap (λ z. base w + function_inner z) (sym (body_seen c.args.body.now))
 
 -- ---- blocks
 
@@ -216,10 +276,18 @@ block-returns-in-None t c =
 
 pub block-returns-in_ok-put-in-Some : goal.block-returns-in_ok-put-in-Some
 block-returns-in_ok-put-in-Some t c =
-    let known = c.in-Some.is in
-    let listed = c.in_ok-list-in-Some.ensures in
-    let lent = c.as_slice.ensures in
-    ?
+    let items = c.as_slice-stat-items.result.now in
+    let i = c.loop-stat.stat-index in
+    let v = c.loop-stat.self in
+    let p = c.in-Some.result.pos in
+    let e : drop i items ≡ [] = drop_all i items c.loop-stat-test.false in
+    let back = ap (λ r. option_map return_of r) c.in-Some.is ∙ ap (λ r. Some r) (return_seen c.in-Some.result) in
+    c.in_ok-put-in-Some.ensures
+    ∙ ap (λ u. put instr.Return p u) (c.in_ok-list-in-Some.ensures ∙ ap (λ l. with_list (exps_of l) p 0 v) c.as_slice.ensures)
+    ∙ returns_form p (exps_of c.in-Some.result.values) c.args.exit v
+    ∙ ap (λ r. with_block (end_from r) c.args.exit v) (sym back)
+    ∙ ap (λ l. with_block (block_from (map stat_of l) (option_map return_of (out-Block c.args.block.now).result)) c.args.exit v) (sym e)
+    ∙ c.loop-stat.invariant
 
 -- ---- the parts of an `if`
 
@@ -242,7 +310,25 @@ clauses-returns t c =
     ∙ c.loop-clause.invariant
 
 pub clauses-loop-clause-preserved : goal.clauses-loop-clause-preserved
-clauses-loop-clause-preserved t c = ?
+clauses-loop-clause-preserved t c =
+    let xs = c.args.all.now in
+    let i = c.loop-clause.clause-index in
+    let v = c.loop-clause.self in
+    let x = c.clause-item.result in
+    let a : tree.Exp = exp_of (out-Clause x).condition in
+    let b : tree.Block = block_of (out-Clause x).block in
+    let p = c.args.pos in
+    let rest : tree.Clauses = clauses_of (drop (i + 1) xs) in
+    let inner = c.in_ok-inner.ensures ∙ ap (λ k. k + 1) (c.place.ensures ∙ ap (λ u. length u.code) c.in_ok-exp.ensures) in
+    let next = c.in_ok-next.ensures ∙ ap (λ k. k + 1) (c.in_ok-sum.ensures ∙ ap₂ (λ j k. j + k) inner c.in_ok-block_size.ensures) in
+    let w2 = c.in_ok-put.ensures ∙ ap₂ (λ k u. put (instr.JumpIfNot k) p u) next c.in_ok-exp.ensures in
+    let w3 = c.in_ok-scoped.ensures ∙ ap (λ u. with_scoped b c.args.exit u) w2 in
+    let w4 = c.in_ok-put-2.ensures ∙ ap (λ u. put (instr.Jump c.args.end) p u) w3 in
+    ap (λ u. with_clauses rest p c.args.end c.args.exit u) w4
+    ∙ clause_written a b rest p c.args.end c.args.exit v
+    ∙ ap (λ z. with_clauses (tree.clause z.condition z.body rest) p c.args.end c.args.exit v) (sym (clause_seen x))
+    ∙ ap (λ l. with_clauses (clauses_of l) p c.args.end c.args.exit v) (sym (item_seen xs i x c.loop-clause-test.true c.clause-item.is))
+    ∙ c.loop-clause.invariant
 
 -- ---- the step of a loop
 
@@ -262,13 +348,20 @@ step-returns-in_ok-put-in-None-clause-code t c =
 -- ---- statements
 
 pub stat-returns-in-Empty : goal.stat-returns-in-Empty
-stat-returns-in-Empty t c = ?
+stat-returns-in-Empty t c =
+    stat_seen (stat_of c.args.stat.now) (tree.empty c.in-Empty.field-0) c.args.exit c.args.self.now _ (ap stat_of c.in-Empty.is ∙ stat_of-Empty c.in-Empty.field-0) (empty_form c.in-Empty.field-0 c.args.exit c.args.self.now)
 
-pub stat-returns-in-Empty-2 : goal.stat-returns-in-Empty-2
-stat-returns-in-Empty-2 t c = ?
+pub stat-returns-in-Interface : goal.stat-returns-in-Interface
+stat-returns-in-Interface t c =
+    stat_seen (stat_of c.args.stat.now) (tree.interface c.in-Interface.field-0 c.in-Interface.field-1 c.in-Interface.field-2) c.args.exit c.args.self.now _
+    (ap stat_of c.in-Interface.is ∙ stat_of-Interface c.in-Interface.field-0 c.in-Interface.field-1 c.in-Interface.field-2)
+    (interface_form c.in-Interface.field-0 c.in-Interface.field-1 c.in-Interface.field-2 c.args.exit c.args.self.now)
 
-pub stat-returns-in-Empty-3 : goal.stat-returns-in-Empty-3
-stat-returns-in-Empty-3 t c = ?
+pub stat-returns-in-Alias : goal.stat-returns-in-Alias
+stat-returns-in-Alias t c =
+    stat_seen (stat_of c.args.stat.now) (tree.alias c.in-Alias.field-0 c.in-Alias.field-1 c.in-Alias.field-2) c.args.exit c.args.self.now _
+    (ap stat_of c.in-Alias.is ∙ stat_of-Alias c.in-Alias.field-0 c.in-Alias.field-1 c.in-Alias.field-2)
+    (alias_form c.in-Alias.field-0 c.in-Alias.field-1 c.in-Alias.field-2 c.args.exit c.args.self.now)
 
 pub stat-returns-in_ok-stores-in-Assign : goal.stat-returns-in_ok-stores-in-Assign
 stat-returns-in_ok-stores-in-Assign t c =
@@ -401,7 +494,56 @@ repetition-returns-in_ok-put-in-Repeat t c = λ _.
     ∙ repeat_form p b e c.args.exit w)
 
 pub repetition-returns-in_ok-put-in-NumericFor : goal.repetition-returns-in_ok-put-in-NumericFor
-repetition-returns-in_ok-put-in-NumericFor t c = λ _. ?
+repetition-returns-in_ok-put-in-NumericFor t c = λ _.
+    let w : Work = c.args.self.now in
+    let p = c.in-NumericFor.pos in
+    let a : tree.Exp = exp_of c.in-NumericFor.first in
+    let b : tree.Exp = exp_of c.in-NumericFor.limit in
+    let s : tree.Step = step_from (option_map exp_of c.in-NumericFor.step) in
+    let d : tree.Block = block_of c.in-NumericFor.block in
+    let slot = c.free-slot.result in
+    let x = c.next-local.result in
+    let second = c.in_ok-second-in-NumericFor.second in
+    let w2 = c.in_ok-exp-in-NumericFor.ensures ∙ ap (λ v. with_exp a v) c.in_ok-skip-in-NumericFor.ensures in
+    let w3 = c.in_ok-end_bound-in-NumericFor.ensures ∙ ap₂ (λ q v. free_from (slot + 1) (put (instr.SetSlot slot) p (put instr.Bound q v))) c.pos.ensures w2 in
+    let w4 = c.in_ok-exp-in-NumericFor-2.ensures ∙ ap (λ v. with_exp b v) w3 in
+    let w5 = c.in_ok-end_bound-in-NumericFor-2.ensures ∙ ap₂ (λ q v. free_from (second + 1) (put (instr.SetSlot second) p (put instr.Bound q v))) c.pos-in-NumericFor.ensures w4 in
+    let w6 = w5 ∙ ap (λ k. with_bound b k p (with_bound a slot p (skip 1 w))) c.in_ok-second-in-NumericFor.ensures in
+    let w7 = c.in_ok-place-in-NumericFor.ensures.code ∙ ap (λ v. with_step s p v) w6 in
+    let turn = c.in_ok-turn-in-NumericFor.ensures ∙ ap (λ k. k + 2) (c.place-in-NumericFor.ensures ∙ ap (λ v. length v.code) w7) in
+    let w8 = c.in_ok-behind-in-NumericFor.ensures.code
+        ∙ ap₂ (λ q v. with_count_begun slot x (length v.code + 2 + 4 + block_size d + 1) q p (put (instr.SetSlot (slot + 2)) p v)) c.in_ok-place-in-NumericFor.ensures.place w7 in
+    let behind = c.in_ok-behind-in-NumericFor.ensures.exit ∙ ap (λ v. length v.code + 2 + 4 + block_size d + 1) w7 in
+    let w9 = c.in_ok-scoped-in-NumericFor.ensures ∙ ap₂ (λ k v. with_scoped d k v) behind w8 in
+    let w10 = c.in_ok-put-in-NumericFor.ensures ∙ ap₂ (λ k v. put (instr.ForStep slot k) p v) turn w9 in
+    let w11 = c.leave-in-NumericFor.ensures ∙ ap₂ (λ k v. leaving k slot v) c.count-count-in-NumericFor.ensures w10 in
+    stat_seen (stat_of c.args.stat.now) (tree.count p c.in-NumericFor.field-1 a b s d) c.args.exit w _
+    (ap stat_of c.in-NumericFor.is ∙ stat_of-NumericFor p c.in-NumericFor.field-1 c.in-NumericFor.first c.in-NumericFor.limit c.in-NumericFor.step c.in-NumericFor.block)
+    (w11
+    ∙ ap₂ (λ j k. count_at w p a b s d (length w.scope.own) j k) c.free-slot.ensures c.next-local.ensures
+    ∙ count_written p c.in-NumericFor.field-1 a b s d c.args.exit w)
 
 pub repetition-returns-in_ok-iterate-in-GenericFor : goal.repetition-returns-in_ok-iterate-in-GenericFor
-repetition-returns-in_ok-iterate-in-GenericFor t c = λ _. ?
+repetition-returns-in_ok-iterate-in-GenericFor t c = λ _.
+    let w : Work = c.args.self.now in
+    let p = c.in-GenericFor.pos in
+    let es : tree.Exps = exps_of c.in-GenericFor.values in
+    let d : tree.Block = block_of c.in-GenericFor.block in
+    let slot = c.free-slot-in-GenericFor.result in
+    let x = c.next-local-in-GenericFor.result in
+    let n = c.len-variables.result in
+    let w2 = c.in_ok-list-in-GenericFor.ensures ∙ ap₂ (λ l v. with_list (exps_of l) p 0 v) c.as_slice.ensures c.in_ok-skip-in-GenericFor.ensures in
+    let turn = c.in_ok-turn-in-GenericFor.ensures ∙ ap (λ k. k + 5) (c.place-in-GenericFor.ensures ∙ ap (λ v. length v.code) w2) in
+    let test = c.in_ok-test-in-GenericFor.ensures.test ∙ ap (λ v. length v.code + 5 + 2 + n + n + block_size d) w2 in
+    let w3 = c.in_ok-test-in-GenericFor.ensures.code ∙ ap (λ v. with_each_begun slot n x (length v.code + 5 + 2 + n + n + block_size d) p v) w2 in
+    let behind = c.in_ok-behind-in-GenericFor.ensures ∙ ap (λ k. k + 13) test in
+    let w4 = c.in_ok-scoped-in-GenericFor.ensures ∙ ap₂ (λ k v. with_scoped d k v) behind w3 in
+    let w5 = c.in_ok-iterate-in-GenericFor.ensures ∙ ap₂ (λ k v. put_all (iterate_code slot k p c.first_place.result) v) turn w4 in
+    let w6 = c.leave-in-GenericFor.ensures ∙ ap₂ (λ k v. leaving k slot v) c.count-count-in-GenericFor.ensures w5 in
+    let q = c.first_place.ensures ∙ ap (λ l. first_place p (exps_of l)) c.as_slice-in-GenericFor.ensures in
+    stat_seen (stat_of c.args.stat.now) (tree.each p c.in-GenericFor.names es d) c.args.exit w _
+    (ap stat_of c.in-GenericFor.is ∙ stat_of-GenericFor p c.in-GenericFor.names c.in-GenericFor.values c.in-GenericFor.block)
+    (w6
+    ∙ ap₂ (λ j k. each_at w p es d (length w.scope.own) j k n c.first_place.result) c.free-slot-in-GenericFor.ensures c.next-local-in-GenericFor.ensures
+    ∙ ap₂ (λ k z. each_at w p es d (length w.scope.own) w.scope.free w.scope.next k z) c.len-variables.ensures q
+    ∙ each_written p c.in-GenericFor.names es d c.args.exit w)
