@@ -4,6 +4,7 @@
 mod expressions;
 mod functions;
 mod locals;
+mod modules;
 mod operators;
 mod scope;
 mod sizes;
