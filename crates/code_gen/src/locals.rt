@@ -129,12 +129,8 @@ fn stat_locals(stat: &Stat) -> Result<u64, NoMemory>
         }
         Stat::Call(_, call) => exp_locals(call),
         Stat::Do(_, block) => block_locals(block),
-        Stat::While(_, condition, block) => {
-            sum(exp_locals(condition)?, block_locals(block)?)
-        }
-        Stat::Repeat(_, block, condition) => {
-            sum(block_locals(block)?, exp_locals(condition)?)
-        }
+        Stat::While(_, condition, block) => { sum(exp_locals(condition)?, block_locals(block)?) }
+        Stat::Repeat(_, block, condition) => { sum(block_locals(block)?, exp_locals(condition)?) }
         Stat::If(_, clauses, otherwise) => {
             let total = clauses_locals(clauses.as_slice())?;
             match otherwise {
@@ -154,15 +150,11 @@ fn stat_locals(stat: &Stat) -> Result<u64, NoMemory>
             let begun = sum(names.len() as u64, all_locals(values.as_slice())?)?;
             sum(begun, block_locals(block)?)
         }
-        Stat::Function(_, target, function) => {
-            sum(exp_locals(target)?, exp_locals(function)?)
-        }
+        Stat::Function(_, target, function) => { sum(exp_locals(target)?, exp_locals(function)?) }
         Stat::Method(_, object, _, function) => {
             sum(sum(exp_locals(object)?, 1)?, exp_locals(function)?)
         }
         Stat::LocalFunction(_, _, function) => sum(1, exp_locals(function)?),
-        Stat::Local(_, names, values) => {
-            sum(names.len() as u64, all_locals(values.as_slice())?)
-        }
+        Stat::Local(_, names, values) => { sum(names.len() as u64, all_locals(values.as_slice())?) }
     }
 }

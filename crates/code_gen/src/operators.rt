@@ -27,7 +27,13 @@ pub fn unary_instr(operator: UnaryOperator) -> Instr
 impl<'a> Writer<'a> {
     /// What stands between the operands of an operation.
     #[tactic(auto, using(crate::proofs::Put::put_none), unfolding(crate::specs::Work::put_all))]
-    pub fn between(&mut self, operator: BinaryOperator, pos: Pos, slot: u64, right: &Expr) -> Result<(), NoMemory>
+    pub fn between(
+        &mut self,
+        operator: BinaryOperator,
+        pos: Pos,
+        slot: u64,
+        right: &Expr,
+    ) -> Result<(), NoMemory>
         ensures { OnOk result (self.new ≡ put_all (between_them operator pos slot (length self.old.code + exp_size_of (exp_of right.now) + 1)) self.old) }
     {
         match operator {

@@ -77,7 +77,14 @@ impl<'a> Writer<'a> {
     }
 
     /// The turns of a numeric `for` begin, whose variable is this local. A step of 0 is found at the place of the step. Gives the place behind the loop.
-    fn begin_count(&mut self, slot: u64, local: u64, step: Pos, block: &Block, pos: Pos) -> Result<u64, NoMemory>
+    fn begin_count(
+        &mut self,
+        slot: u64,
+        local: u64,
+        step: Pos,
+        block: &Block,
+        pos: Pos,
+    ) -> Result<u64, NoMemory>
         ensures code { OnOk result (self.new ≡ with_count_begun slot local (length self.old.code + 2 + 4 + block_size_of (block_of block.now) + 1) step pos (put_one (instr.SetSlot (slot + 2)) pos self.old)) }
         ensures exit { IfOk result (λ n. n ≡ length self.old.code + 2 + 4 + block_size_of (block_of block.now) + 1) }
     {
@@ -96,7 +103,14 @@ impl<'a> Writer<'a> {
     }
 
     /// The turns of a generic `for` begin, whose variables are so many locals from one on. Gives the place where the iterator is called.
-    fn begin_each(&mut self, slot: u64, count: u64, local: u64, block: &Block, pos: Pos) -> Result<u64, NoMemory>
+    fn begin_each(
+        &mut self,
+        slot: u64,
+        count: u64,
+        local: u64,
+        block: &Block,
+        pos: Pos,
+    ) -> Result<u64, NoMemory>
         ensures code { OnOk result (self.new ≡ with_each_begun slot count local (length self.old.code + 5 + 2 + count + count + block_size_of (block_of block.now)) pos self.old) }
         ensures test { IfOk result (λ n. n ≡ length self.old.code + 5 + 2 + count + count + block_size_of (block_of block.now)) }
     {

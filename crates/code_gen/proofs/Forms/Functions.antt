@@ -31,7 +31,6 @@ use Rattle.lua_tree.specs.declared.syntax.Rest.{Rest}
 use Rattle.lua_tree.specs.declared.annotation.TypeResults.{TypeResults}
 use Rattle.code_gen.specs.Work.{Work, left, entered, base, grown, skip, free_from, next_from, with_scope, put_all, put, with_exp, with_multi, with_values, is_open, with_list, with_step, with_function, declaring, leaving, with_body, at_work, finished, with_stat, with_clauses, with_else, with_block, with_scoped}
 
-
 pub function_written : (ps : List Typed) (rest : Option Rest) (rs : Option TypeResults) (b : Block) (p : Pos) (w : Work)
     → finished w.code w.scope (length ps) (is_some rest) (length ps + block_slots b) (captures_in w.scope) (with_body (length ps) b p (at_work [] (inside (length ps) w.scope) w))
     ≡ with_function (tree.function_of ps rest rs b) p w

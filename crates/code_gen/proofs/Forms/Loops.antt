@@ -29,7 +29,6 @@ use Rattle.code_gen.proofs.Forms.Statements.{left_slots}
 use Rattle.lua_meaning.specs.Trees.{first_place}
 use Rattle.code_gen.specs.Work.{Work, left, entered, base, grown, skip, free_from, next_from, with_scope, put_all, put, with_exp, with_multi, with_values, is_open, with_list, with_step, with_function, declaring, with_bound, with_count_begun, with_each_begun, leaving, with_stat, with_clauses, with_else, with_block, with_scoped}
 
-
 module _ (w : Work) (c : Placed) (ps : List Proto) (sc : Scope) where
   put_after : (i : Instr) (p : Pos) → put i p (grown c ps sc w) ≡ grown (c ++ one i p) ps sc w
   unfolding put_all skip free_from next_from declaring leaving
@@ -73,8 +72,8 @@ unfolding put_all skip free_from next_from declaring leaving
 begun_count_after w c ps sc slot x end q p = simp append_assoc
 
 module _ (w : Work) (p : Pos) (a b : Exp) (c : Step) (d : Block) (turn end : ℕ)
-         (at_turn : turn ≡ length w.code + exp_size a + 2 + exp_size b + 2 + step_size c + 2)
-         (at_end : end ≡ turn + 4 + block_size d + 1) where
+    (at_turn : turn ≡ length w.code + exp_size a + 2 + exp_size b + 2 + step_size c + 2)
+    (at_end : end ≡ turn + 4 + block_size d + 1) where
   abbrev slot : ℕ
   slot = w.scope.free
 
@@ -134,9 +133,14 @@ module _ (w : Work) (p : Pos) (a b : Exp) (c : Step) (d : Block) (turn end : ℕ
       ∙ put_after w ([] ++ code_a ++ code_b ++ code_c) ([] ++ functions_a ++ functions_b ++ functions_c) (past (step_locals c) scope_b) (instr.SetSlot (slot + 2)) p
     where
       here_b : length w.code + length ([] ++ code_a ++ code_b) ≡ third
-      here_b = omega (arith, length-append code_a code_b
-          , length-append (exp_code a (past 1 w.scope) (base w) (length w.code)) ((instr.Bound, place_of a) ∷ one (instr.SetSlot slot) p), exp_length a (past 1 w.scope) (base w) (length w.code)
-          , length-append (exp_code b scope_a (base w + exp_functions a) second) ((instr.Bound, place_of b) ∷ one (instr.SetSlot (slot + 1)) p), exp_length b scope_a (base w + exp_functions a) second)
+      here_b = omega (
+        arith,
+        length-append code_a code_b,
+        length-append (exp_code a (past 1 w.scope) (base w) (length w.code)) ((instr.Bound, place_of a) ∷ one (instr.SetSlot slot) p),
+        exp_length a (past 1 w.scope) (base w) (length w.code),
+        length-append (exp_code b scope_a (base w + exp_functions a) second) ((instr.Bound, place_of b) ∷ one (instr.SetSlot (slot + 1)) p),
+        exp_length b scope_a (base w + exp_functions a) second,
+      )
 
       number_b : base w + length ([] ++ functions_a ++ functions_b) ≡ base w + exp_functions a + exp_functions b
       number_b = omega (arith, length-append functions_a functions_b, exp_count a (past 1 w.scope) (base w), exp_count b scope_a (base w + exp_functions a))
@@ -148,20 +152,29 @@ module _ (w : Work) (p : Pos) (a b : Exp) (c : Step) (d : Block) (turn end : ℕ
   functions_begun = [] ++ functions_a ++ functions_b ++ functions_c
 
   code_begun_length : length w.code + length code_begun ≡ turn + 4
-  code_begun_length = omega (arith, at_turn
-      , length-append ([] ++ code_a ++ code_b ++ code_c ++ one (instr.SetSlot (slot + 2)) p) code_turn
-      , length-append ([] ++ code_a ++ code_b ++ code_c) (one (instr.SetSlot (slot + 2)) p)
-      , length-append ([] ++ code_a ++ code_b) code_c
-      , length-append code_a code_b
-      , length-append (exp_code a (past 1 w.scope) (base w) (length w.code)) ((instr.Bound, place_of a) ∷ one (instr.SetSlot slot) p), exp_length a (past 1 w.scope) (base w) (length w.code)
-      , length-append (exp_code b scope_a (base w + exp_functions a) second) ((instr.Bound, place_of b) ∷ one (instr.SetSlot (slot + 1)) p), exp_length b scope_a (base w + exp_functions a) second
-      , step_length c p scope_b (base w + exp_functions a + exp_functions b) third)
+  code_begun_length = omega (
+    arith,
+    at_turn,
+    length-append ([] ++ code_a ++ code_b ++ code_c ++ one (instr.SetSlot (slot + 2)) p) code_turn,
+    length-append ([] ++ code_a ++ code_b ++ code_c) (one (instr.SetSlot (slot + 2)) p),
+    length-append ([] ++ code_a ++ code_b) code_c,
+    length-append code_a code_b,
+    length-append (exp_code a (past 1 w.scope) (base w) (length w.code)) ((instr.Bound, place_of a) ∷ one (instr.SetSlot slot) p),
+    exp_length a (past 1 w.scope) (base w) (length w.code),
+    length-append (exp_code b scope_a (base w + exp_functions a) second) ((instr.Bound, place_of b) ∷ one (instr.SetSlot (slot + 1)) p),
+    exp_length b scope_a (base w + exp_functions a) second,
+    step_length c p scope_b (base w + exp_functions a + exp_functions b) third,
+  )
 
   functions_begun_length : base w + length functions_begun ≡ base w + exp_functions a + exp_functions b + step_functions c
-  functions_begun_length = omega (arith
-      , length-append (functions_a ++ functions_b) functions_c, length-append functions_a functions_b
-      , exp_count a (past 1 w.scope) (base w), exp_count b scope_a (base w + exp_functions a)
-      , step_count c scope_b (base w + exp_functions a + exp_functions b))
+  functions_begun_length = omega (
+    arith,
+    length-append (functions_a ++ functions_b) functions_c,
+    length-append functions_a functions_b,
+    exp_count a (past 1 w.scope) (base w),
+    exp_count b scope_a (base w + exp_functions a),
+    step_count c scope_b (base w + exp_functions a + exp_functions b),
+  )
 
   part_turn : with_count_begun slot w.scope.next end (step_place c p) p (grown ([] ++ code_a ++ code_b ++ code_c ++ one (instr.SetSlot (slot + 2)) p) functions_begun (past (step_locals c) scope_b) w)
       ≡ grown code_begun functions_begun scope_turn w
@@ -211,14 +224,14 @@ module _ (w : Work) (p : Pos) (a b : Exp) (c : Step) (d : Block) (turn end : ℕ
 begun_each_after : (w : Work) (c : Placed) (ps : List Proto) (sc : Scope) (slot n x test : ℕ) (p : Pos)
     → with_each_begun slot n x test p (grown c ps sc w)
     ≡ grown
-      (c ++ (instr.Spread 3, p) ∷ (instr.SetSlot (slot + 2), p) ∷ (instr.SetSlot (slot + 1), p) ∷ (instr.SetSlot slot, p) ∷ (instr.Jump test, p) ∷ (instr.Turn, p) ∷ (instr.Spread n, p) ∷ begin_locals (slot + 3) n p)
-      ps (record sc { own = in_slots n x (slot + 3) sc.own; free = slot + 3 + n }) w
+    (c ++ (instr.Spread 3, p) ∷ (instr.SetSlot (slot + 2), p) ∷ (instr.SetSlot (slot + 1), p) ∷ (instr.SetSlot slot, p) ∷ (instr.Jump test, p) ∷ (instr.Turn, p) ∷ (instr.Spread n, p) ∷ begin_locals (slot + 3) n p)
+    ps (record sc { own = in_slots n x (slot + 3) sc.own; free = slot + 3 + n }) w
 unfolding put_all skip free_from next_from declaring leaving
 begun_each_after w c ps sc slot n x test p = simp append_assoc
 
 module _ (w : Work) (p : Pos) (ns : List Name) (es : Exps) (d : Block) (turn test : ℕ)
-         (at_turn : turn ≡ length w.code + exps_size es + 5)
-         (at_test : test ≡ turn + 2 + length ns + length ns + block_size d) where
+    (at_turn : turn ≡ length w.code + exps_size es + 5)
+    (at_test : test ≡ turn + 2 + length ns + length ns + block_size d) where
   abbrev each_scope : Scope
   each_scope = record w.scope { own = in_slots (length ns) w.scope.next (w.scope.free + 3) w.scope.own; free = w.scope.free + 3 + length ns; next = w.scope.next + length ns + exps_locals es }
 

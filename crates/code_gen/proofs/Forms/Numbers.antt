@@ -31,7 +31,6 @@ use Rattle.code_gen.proofs.Forms.Loops.{count_form, each_form}
 use Rattle.lua_meaning.specs.Trees.{first_place}
 use Rattle.code_gen.specs.Work.{Work, left, entered, base, grown, skip, free_from, next_from, with_scope, put_all, put, with_exp, with_multi, with_values, is_open, with_list, with_step, with_function, declaring, leaving, with_bound, with_count_begun, with_each_begun, with_stat, with_clauses, with_else, with_block, with_scoped}
 
-
 -- where the end of an operation is counted from behind its left operand
 same_between : (o : BinaryOperator) (p : Pos) (slot at a b : ℕ) → between o p slot (at + a + b + 1) ≡ between o p slot (at + (a + b + operator_size o))
 same_between binary.Or p slot at a b = ap (between binary.Or p slot) (omega arith)
@@ -63,7 +62,7 @@ pub binary_written : (p : Pos) (o : BinaryOperator) (a b : Exp) (w : Work)
     ≡ with_exp (tree.binary p o a b) w
 binary_written p o a b w =
     let e : between o p w.scope.free (length (with_exp a w).code + exp_size b + 1) ≡ between o p w.scope.free (length w.code + exp_size (tree.binary p o a b)) =
-        ap (λ n. between o p w.scope.free (n + exp_size b + 1)) (exp_place a w) ∙ same_between o p w.scope.free (length w.code) (exp_size a) (exp_size b) in
+    ap (λ n. between o p w.scope.free (n + exp_size b + 1)) (exp_place a w) ∙ same_between o p w.scope.free (length w.code) (exp_size a) (exp_size b) in
     ap (λ c. put_all (behind o p w.scope.free) (free_from w.scope.free (with_exp b (free_from (w.scope.free + operator_slots o) (put_all c (with_exp a w)))))) e
     ∙ binary_form p o a b w
 
@@ -95,9 +94,9 @@ while_written p e b brk w = while_form p e b brk w
 
 pub clause_written : (e : Exp) (b : Block) (cs : Clauses) (p : Pos) (end brk : ℕ) (w : Work)
     → with_clauses cs p end brk
-      (put (instr.Jump end) p
-      (with_scoped b brk
-      (put (instr.JumpIfNot (length (with_exp e w).code + 1 + block_size b + 1)) p (with_exp e w))))
+    (put (instr.Jump end) p
+    (with_scoped b brk
+    (put (instr.JumpIfNot (length (with_exp e w).code + 1 + block_size b + 1)) p (with_exp e w))))
     ≡ with_clauses (tree.clause e b cs) p end brk w
 clause_written e b cs p end brk w =
     ap (λ n. with_clauses cs p end brk (put (instr.Jump end) p (with_scoped b brk (put (instr.JumpIfNot (n + 1 + block_size b + 1)) p (with_exp e w))))) (exp_place e w)
@@ -115,7 +114,7 @@ count_written p n a b c d brk w =
     let one : Work = with_bound a w.scope.free p (skip 1 w) in
     let two : Work = with_bound b (w.scope.free + 1) p one in
     let here : length (with_step c p two).code + 2 ≡ length w.code + exp_size a + 2 + exp_size b + 2 + step_size c + 2 =
-        omega (arith, step_place_of c p two, bound_place b (w.scope.free + 1) p one, bound_place a w.scope.free p (skip 1 w), skip_place 1 w) in
+    omega (arith, step_place_of c p two, bound_place b (w.scope.free + 1) p one, bound_place a w.scope.free p (skip 1 w), skip_place 1 w) in
     count_form w p a b c d (length (with_step c p two).code + 2) (length (with_step c p two).code + 2 + 4 + block_size d + 1) here refl n brk
 
 pub each_written : (p : Pos) (ns : List Name) (es : Exps) (d : Block) (brk : ℕ) (w : Work)

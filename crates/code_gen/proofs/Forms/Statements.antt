@@ -155,13 +155,13 @@ scope_form p b brk w = simp add-zero
 
 pub while_form : (p : Pos) (e : Exp) (b : Block) (brk : ℕ) (w : Work)
     → next_from (w.scope.next + exp_locals e + block_locals b)
-      (put (instr.JumpIf (length w.code + 1)) p
-      (with_exp e
-      (next_from w.scope.next
-      (with_scoped b (length w.code + 2 + block_size b + exp_size e + 1)
-      (skip (exp_locals e)
-      (put instr.Turn p
-      (put (instr.Jump (length w.code + 2 + block_size b)) p w)))))))
+    (put (instr.JumpIf (length w.code + 1)) p
+    (with_exp e
+    (next_from w.scope.next
+    (with_scoped b (length w.code + 2 + block_size b + exp_size e + 1)
+    (skip (exp_locals e)
+    (put instr.Turn p
+    (put (instr.Jump (length w.code + 2 + block_size b)) p w)))))))
     ≡ with_stat (tree.while p e b) brk w
 unfolding with_stat with_scoped with_block with_exp put_all skip free_from next_from declaring leaving
 while_form p e b brk w = simp (append_assoc, length-append, block_length, block_count, add_assoc, add-zero, suc_plus, unary_clauses)
@@ -198,9 +198,9 @@ no_clause_form p end brk w = simp (append-nil, add-zero)
 
 pub clause_form : (e : Exp) (b : Block) (cs : Clauses) (p : Pos) (end brk : ℕ) (w : Work)
     → with_clauses cs p end brk
-      (put (instr.Jump end) p
-      (with_scoped b brk
-      (put (instr.JumpIfNot (length w.code + exp_size e + 1 + block_size b + 1)) p (with_exp e w))))
+    (put (instr.Jump end) p
+    (with_scoped b brk
+    (put (instr.JumpIfNot (length w.code + exp_size e + 1 + block_size b + 1)) p (with_exp e w))))
     ≡ with_clauses (tree.clause e b cs) p end brk w
 unfolding with_clauses with_scoped with_block with_exp put_all skip free_from next_from declaring leaving
 clause_form e b cs p end brk w = simp (append_assoc, length-append, exp_length, exp_count, block_length, block_count, add_assoc, suc_plus, unary_clauses)
@@ -219,22 +219,22 @@ define_form p e f brk w = simp (append_assoc, add_assoc, add-zero)
 
 pub declare_function_form : (p : Pos) (n : Name) (f : Exp) (brk : ℕ) (w : Work)
     → put (instr.SetCell w.scope.free) p
-      (with_exp f
-      (skip 1
-      (declaring 1 w.scope.next
-      (put (instr.NewCell w.scope.free) p
-      (put (instr.SetSlot w.scope.free) p
-      (put instr.Nil p w))))))
+    (with_exp f
+    (skip 1
+    (declaring 1 w.scope.next
+    (put (instr.NewCell w.scope.free) p
+    (put (instr.SetSlot w.scope.free) p
+    (put instr.Nil p w))))))
     ≡ with_stat (tree.declare_function p n f) brk w
 unfolding with_stat with_exp put_all skip free_from next_from declaring leaving
 declare_function_form p n f brk w = simp (append_assoc, length-append, add_assoc, suc_plus, unary_clauses) (simp one_plus)
 
 pub declare_form : (p : Pos) (ns : List Typed) (es : Exps) (brk : ℕ) (w : Work)
     → declaring (length ns) w.scope.next
-      (put_all (begin_locals w.scope.free (length ns) p)
-      (put (instr.Spread (length ns)) p
-      (with_list es p 0
-      (skip (length ns) w))))
+    (put_all (begin_locals w.scope.free (length ns) p)
+    (put (instr.Spread (length ns)) p
+    (with_list es p 0
+    (skip (length ns) w))))
     ≡ with_stat (tree.declare p ns es) brk w
 unfolding with_stat with_list put_all skip free_from next_from declaring leaving
 declare_form p ns es brk w = simp (append_assoc, add_assoc)

@@ -190,22 +190,24 @@ list-loop-e-preserved t c =
     let count = c.loop-e.invariant.1 in
     let seen = item_seen xs i x c.loop-e-test.true c.e-item.is in
     elim c.if-count-values.branch [
-      list-then-count-values+in_ok-exp w ↦
-        let some : 0 < length (drop (i + 1) xs) = omega (arith, count, w.if-count-values.true, length-drop (i + 1) xs) in
-        (ap (λ u. with_list (exps_of (drop (i + 1) xs)) c.args.pos (i + 1) u) (w.self-is ∙ w.in_ok-exp.ensures)
-        ∙ inner_written x (drop (i + 1) xs) c.args.pos i v some
-        ∙ ap (λ l. with_list (exps_of l) c.args.pos i v) (sym seen)
-        ∙ c.loop-e.invariant.0
-        , ap (λ n. n + 1) count)
-    | list-else-count-values+in_ok-values+else-branch w ↦
-        let last : drop (i + 1) xs ≡ [] = drop_all (i + 1) xs (omega (arith, count, w.if-count-values.false)) in
-        let closed : is_open (exp_of x) ≡ false = sym w.in_ok-values.ensures.many ∙ w.if-branch.false in
-        (ap (λ u. with_list (exps_of (drop (i + 1) xs)) c.args.pos (i + 1) u) (w.self-is ∙ w.in_ok-values.ensures.code)
-        ∙ ap (λ l. with_list (exps_of l) c.args.pos (i + 1) (with_values (exp_of x) v)) last
-        ∙ last_written x c.args.pos i v closed
-        ∙ ap (λ l. with_list (exps_of l) c.args.pos i v) (sym (seen ∙ ap (λ l. x ∷ l) last))
-        ∙ c.loop-e.invariant.0
-        , ap (λ n. n + 1) count)
+      | list-then-count-values+in_ok-exp w ↦
+          let some : 0 < length (drop (i + 1) xs) = omega (arith, count, w.if-count-values.true, length-drop (i + 1) xs) in (
+            ap (λ u. with_list (exps_of (drop (i + 1) xs)) c.args.pos (i + 1) u) (w.self-is ∙ w.in_ok-exp.ensures)
+                ∙ inner_written x (drop (i + 1) xs) c.args.pos i v some
+                ∙ ap (λ l. with_list (exps_of l) c.args.pos i v) (sym seen)
+                ∙ c.loop-e.invariant.0,
+            ap (λ n. n + 1) count,
+          )
+      | list-else-count-values+in_ok-values+else-branch w ↦
+          let last : drop (i + 1) xs ≡ [] = drop_all (i + 1) xs (omega (arith, count, w.if-count-values.false)) in
+          let closed : is_open (exp_of x) ≡ false = sym w.in_ok-values.ensures.many ∙ w.if-branch.false in (
+            ap (λ u. with_list (exps_of (drop (i + 1) xs)) c.args.pos (i + 1) u) (w.self-is ∙ w.in_ok-values.ensures.code)
+                ∙ ap (λ l. with_list (exps_of l) c.args.pos (i + 1) (with_values (exp_of x) v)) last
+                ∙ last_written x c.args.pos i v closed
+                ∙ ap (λ l. with_list (exps_of l) c.args.pos i v) (sym (seen ∙ ap (λ l. x ∷ l) last))
+                ∙ c.loop-e.invariant.0,
+            ap (λ n. n + 1) count,
+          )
     ]
 
 -- ---- functions
@@ -512,7 +514,7 @@ repetition-returns-in_ok-put-in-NumericFor t c = λ _.
     let w7 = c.in_ok-place-in-NumericFor.ensures.code ∙ ap (λ v. with_step s p v) w6 in
     let turn = c.in_ok-turn-in-NumericFor.ensures ∙ ap (λ k. k + 2) (c.place-in-NumericFor.ensures ∙ ap (λ v. length v.code) w7) in
     let w8 = c.in_ok-behind-in-NumericFor.ensures.code
-        ∙ ap₂ (λ q v. with_count_begun slot x (length v.code + 2 + 4 + block_size d + 1) q p (put (instr.SetSlot (slot + 2)) p v)) c.in_ok-place-in-NumericFor.ensures.place w7 in
+    ∙ ap₂ (λ q v. with_count_begun slot x (length v.code + 2 + 4 + block_size d + 1) q p (put (instr.SetSlot (slot + 2)) p v)) c.in_ok-place-in-NumericFor.ensures.place w7 in
     let behind = c.in_ok-behind-in-NumericFor.ensures.exit ∙ ap (λ v. length v.code + 2 + 4 + block_size d + 1) w7 in
     let w9 = c.in_ok-scoped-in-NumericFor.ensures ∙ ap₂ (λ k v. with_scoped d k v) behind w8 in
     let w10 = c.in_ok-put-in-NumericFor.ensures ∙ ap₂ (λ k v. put (instr.ForStep slot k) p v) turn w9 in

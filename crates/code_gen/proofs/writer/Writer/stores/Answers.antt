@@ -13,8 +13,9 @@ loop-i-preserved c =
     let x = c.index-targets-targets.result in
     let p = c.args.pos in
     let sc = c.args.self.now.scope in
-    let instr = c.store-instr.ensures ∙ ap (λ s. store_instr (exp_of x) s) c.loop-i.invariant.1 in
-    (ap (λ v. put_all (stores (targets_of (take (length ts - (i + 1)) ts)) p sc) v) (c.in_ok-put.ensures ∙ ap (λ z. put z p c.loop-i.self) instr)
-    ∙ stores_step ts i x p sc c.loop-i.self c.loop-i-test.true c.index-targets-targets.is
-    ∙ c.loop-i.invariant.0
-    , ap (λ v. v.scope) c.in_ok-put.ensures ∙ c.loop-i.invariant.1)
+    let instr = c.store-instr.ensures ∙ ap (λ s. store_instr (exp_of x) s) c.loop-i.invariant.1 in (
+      ap (λ v. put_all (stores (targets_of (take (length ts - (i + 1)) ts)) p sc) v) (c.in_ok-put.ensures ∙ ap (λ z. put z p c.loop-i.self) instr)
+          ∙ stores_step ts i x p sc c.loop-i.self c.loop-i-test.true c.index-targets-targets.is
+          ∙ c.loop-i.invariant.0,
+      ap (λ v. v.scope) c.in_ok-put.ensures ∙ c.loop-i.invariant.1,
+    )
