@@ -1,3 +1,3 @@
 mod Ends
-mod Faithful
+pub mod Faithful
 mod Rows
