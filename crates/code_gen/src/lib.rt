@@ -12,3 +12,5 @@ mod slots;
 mod statements;
 mod sums;
 mod writer;
+
+pub use modules::generate;
