@@ -17,8 +17,9 @@ loop-scoped-preserved c =
     let m = module_of x in
     let rest = map module_of (drop (i + 1) xs) in
     let made = c.in_ok-block.ensures.inner in
-    let base = next_base c.args.first (block_functions m.body) c.loop-scoped.inner (block_protos m.body (module_scope m.names) b) c.module_block.new.inner made (block_count m.body (module_scope m.names) b) in
-    (next_block rest m c.loop-scoped.blocks c.push.new.self c.in_ok-block.block c.loop-scoped.number b (c.args.first + length c.module_block.new.inner) _ c.in_ok-push.ensures.ok c.in_ok-block.ensures.block base
-        (ap (λ l. c.loop-scoped.blocks ++ main_protos (map module_of l) c.loop-scoped.number b) (sym seen) ∙ c.loop-scoped.invariant.0),
-    next_inner rest m c.loop-scoped.inner c.module_block.new.inner b (c.args.first + length c.module_block.new.inner) _ made base
-        (ap (λ l. c.loop-scoped.inner ++ inner_protos (map module_of l) b) (sym seen) ∙ c.loop-scoped.invariant.1))
+    let base = next_base c.args.first (block_functions m.body) c.loop-scoped.inner (block_protos m.body (module_scope m.names) b) c.module_block.new.inner made (block_count m.body (module_scope m.names) b) in (
+      next_block rest m c.loop-scoped.blocks c.push.new.self c.in_ok-block.block c.loop-scoped.number b (c.args.first + length c.module_block.new.inner) _ c.in_ok-push.ensures.ok c.in_ok-block.ensures.block base
+          (ap (λ l. c.loop-scoped.blocks ++ main_protos (map module_of l) c.loop-scoped.number b) (sym seen) ∙ c.loop-scoped.invariant.0),
+      next_inner rest m c.loop-scoped.inner c.module_block.new.inner b (c.args.first + length c.module_block.new.inner) _ made base
+          (ap (λ l. c.loop-scoped.inner ++ inner_protos (map module_of l) b) (sym seen) ∙ c.loop-scoped.invariant.1),
+    )
