@@ -6,3 +6,4 @@ pub mod Cells
 pub mod Values
 pub mod Marked
 pub mod Seen
+pub mod Programs
