@@ -3,7 +3,6 @@ ghost use Rattle.lua_parser.specs.Words.{Words, words_of, sign, key, mark, slice
 ghost use Rattle.lua_parser.specs.Machine.Steps.{binary_at};
 ghost use Rattle.lua_parser.specs.Outcomes.{head_atom, head_is, head_pos, head_number, head_unary, head_binary, Eats, Takes, EatsText, TakesName};
 
-use crate::limits::Limits;
 use lua_lexer::{Keyword, Symbol, Token, TokenKind};
 use lua_tree::{BinaryOperator, Name, UnaryOperator};
 use std::alloc::Global;
@@ -16,7 +15,7 @@ pub(crate) enum Stop {
     NoMemory,
     /// No spelling goes on with the first token that is left.
     Unexpected,
-    /// The first token that is left is inside too many constructs, or ends an expression that is too high.
+    /// Too many constructs are open.
     Deep,
     /// A form that isn't read yet.
     NotBuilt,
@@ -34,13 +33,12 @@ impl From<NoMemory> for Stop {
 
 /// The tokens that are left of a source. Contracts see their words.
 pub(crate) struct Cursor<'a> {
-    pub(crate) source: &'a [u8],
-    pub(crate) rest: &'a [Token],
+    source: &'a [u8],
+    rest: &'a [Token],
     /// The same from the token on that was taken last.
     last: &'a [Token],
     /// The same from the token on that was taken before that one.
     before: &'a [Token],
-    pub(crate) limits: Limits,
 }
 
 impl<'a> Model for Cursor<'a> {
@@ -56,7 +54,6 @@ impl<'a> Cursor<'a> {
         Cursor {
             source,
             rest: tokens,
-            limits: Limits::new(),
             last: tokens,
             before: tokens,
         }

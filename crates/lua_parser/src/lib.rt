@@ -4,13 +4,8 @@
 mod annotations;
 mod cursor;
 mod expressions;
-mod limits;
 mod operators;
-mod prefixes;
 mod reader;
-mod stack;
-mod starters;
-mod taking;
 mod theorems;
 mod type_parts;
 mod types;
