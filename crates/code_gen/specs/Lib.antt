@@ -1,4 +1,0 @@
-pub mod Locals
-pub mod Pieces
-pub mod Work
-pub mod Modules
