@@ -1,0 +1,10 @@
+mod Texts
+pub mod Every
+pub mod Keys
+pub mod Monotone
+pub mod Table
+pub mod Closing
+pub mod Entries
+pub mod Sweeping
+pub mod Flags
+pub mod Readings

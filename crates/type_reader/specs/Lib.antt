@@ -1,0 +1,14 @@
+pub mod Annotations
+pub mod Seen
+pub mod Names
+pub mod Types
+pub mod Faults
+pub mod Declarations
+pub mod Reading
+pub mod Answers
+pub mod Lookups
+pub mod SeenUses
+pub mod Lent
+pub mod Growing
+pub mod Rising
+pub mod Outcomes

@@ -1,0 +1,21 @@
+//! The types of a typed module's annotations, and the type names that it declares.
+#![tactic(auto)]
+
+mod annotations;
+mod building;
+mod checking;
+mod circles;
+mod collecting;
+mod declarations;
+mod faults;
+mod joining;
+mod lookups;
+mod names;
+mod order;
+mod own_names;
+mod reading;
+mod refusals;
+mod typing;
+mod uses;
+
+pub use names::{TypeName, TypeNames};

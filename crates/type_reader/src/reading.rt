@@ -1,0 +1,225 @@
+ghost use Rattle.std.specs.Prelude.{◌≡◌, [], map, Some, IfOk};
+ghost use Rattle.type_reader.specs.Answers.{Answers};
+ghost use Rattle.type_reader.specs.Declarations.{own_names as own_names_of};
+ghost use Rattle.type_reader.specs.Faults.{first_of};
+ghost use Rattle.type_reader.specs.Lent.{declared_in, declaration_of, form_of};
+ghost use Rattle.type_reader.specs.Outcomes.{IsRead, IsReadOf};
+ghost use Rattle.type_reader.specs.Lookups.{built_in_type, names_in};
+ghost use Rattle.type_reader.specs.Reading.{type_faults, place_of as place_in_tree, used_fault, annotation_type, entry_of, bodies_of, bodies_of_form};
+ghost use Rattle.type_reader.specs.Seen.{annotation_of};
+ghost use Rattle.type_reader.specs.Types.{every, type_of as type_of_written};
+
+use crate::annotations::Annotation;
+use crate::building::fields_of;
+use crate::checking::place_of;
+use crate::declarations::{Declaration, Form};
+use crate::faults::{check_declarations, read_results, read_type};
+use crate::joining::append;
+use crate::lookups::{BuiltIn, Found, Lookups};
+use crate::names::TypeName;
+use crate::order::order;
+use crate::refusals::Failure;
+use crate::typing::{Module, find_types};
+use lua_tree::TypeExpr;
+use std::alloc::Global;
+use tl_base::{Bytes, List, NoMemory};
+use tl_types::{Field, Ty, boolean};
+
+/// What is read of a module: the types of its annotations, and the names and the records of interfaces that it adds.
+#[derive(Drop)]
+struct Read {
+    types: List<Ty>,
+    names: Vec<TypeName>,
+    bodies: List<List<Field>>,
+}
+
+fn built_in(alloc: Global, built_in: BuiltIn) -> Result<Ty, NoMemory>
+    ensures { IfOk result (λ t. t ≡ built_in_type built_in) }
+{
+    match built_in {
+        BuiltIn::Boolean => boolean(alloc),
+        BuiltIn::Integer => Ok(Ty::Int),
+        BuiltIn::String => Ok(Ty::Str),
+        BuiltIn::Value => Ok(Ty::Value),
+        BuiltIn::Any => Ok(Ty::Any),
+    }
+}
+
+/// The type of a name of the module's own.
+fn own_type<'a>(alloc: Global, names: Lookups<'a>, name: &'a [u8]) -> Result<Option<Ty>, NoMemory>
+    ensures { IfOk result (λ t. t ≡ (names_in names.entry).ty [] name.now) }
+{
+    match names.own(name) {
+        Found::BuiltIn(found) => Ok(Some(built_in(alloc, found)?)),
+        Found::Type(ty) => Ok(Some(ty.copy(alloc)?)),
+        Found::Untyped | Found::Unknown => Ok(None),
+    }
+}
+
+/// The type that is written, or its first fault.
+fn read_written<'a>(
+    alloc: Global,
+    names: Lookups<'a>,
+    e: &'a TypeExpr,
+) -> Result<Option<Ty>, Failure>
+    ensures answers { Answers (type_faults (names_in names.entry) (place_in_tree (names_in names.entry) e.now) e.now) result }
+    ensures ty { IfOk result (λ t. t ≡ type_of_written (names_in names.entry) e.now) }
+{
+    read_type(alloc, names, place_of(e), e)
+}
+
+/// What stands for an annotation, or its first fault; declarations have theirs before.
+fn read_annotation<'a>(
+    alloc: Global,
+    names: Lookups<'a>,
+    annotation: Annotation<'a>,
+) -> Result<Option<Ty>, Failure>
+    ensures answers { Answers (used_fault (names_in names.entry) (annotation_of annotation.entry)) result }
+    ensures ty { IfOk result (λ t. t ≡ annotation_type (names_in names.entry) (annotation_of annotation.entry)) }
+{
+    match annotation {
+        Annotation::Type(e) => read_written(alloc, names, e),
+        Annotation::Results(results) => read_results(alloc, names, results),
+        Annotation::Interface(_, name, _) | Annotation::Alias(_, name, _) => {
+            Ok(own_type(alloc, names, name.text.as_slice())?)
+        }
+    }
+}
+
+/// What stands for the annotations, or the first fault of those that declare nothing.
+fn read_annotations<'a>(
+    alloc: Global,
+    names: Lookups<'a>,
+    annotations: &[Annotation<'a>],
+) -> Result<List<Ty>, Failure>
+    ensures answers { Answers (first_of (map (used_fault (names_in names.entry)) (map annotation_of annotations.now))) result }
+    ensures types { IfOk result (λ ts. every (map (annotation_type (names_in names.entry)) (map annotation_of annotations.now)) ≡ Some ts) }
+{
+    let mut types = List::new(alloc);
+    for annotation in annotations {
+        match read_annotation(alloc, names, *annotation)? {
+            Some(ty) => types.push(ty)?,
+            None => return Err(Failure::NoMemory),
+        }
+    }
+    Ok(types)
+}
+
+/// A name that the module of this name adds.
+fn added_name<'a>(
+    alloc: Global,
+    of: &[u8],
+    names: Lookups<'a>,
+    declaration: Declaration<'a>,
+) -> Result<Option<TypeName>, NoMemory>
+    ensures { IfOk result (λ n. n ≡ entry_of of.now (names_in names.entry) (declaration_of declaration.entry)) }
+{
+    let name = declaration.name.text.as_slice();
+    match own_type(alloc, names, name)? {
+        Some(ty) => Ok(Some(TypeName {
+            module: Bytes::from_slice(alloc, of)?,
+            name: Bytes::from_slice(alloc, name)?,
+            ty,
+        })),
+        None => Ok(None),
+    }
+}
+
+/// The names that the module of this name adds.
+fn added_names<'a>(
+    alloc: Global,
+    of: &[u8],
+    names: Lookups<'a>,
+    declared: &[Declaration<'a>],
+) -> Result<Vec<TypeName>, NoMemory>
+    ensures { IfOk result (λ v. every (map (entry_of of.now (names_in names.entry)) (declared_in declared.now)) ≡ Some v.items) }
+{
+    let mut added = Vec::new(alloc);
+    for declaration in declared {
+        match added_name(alloc, of, names, *declaration)? {
+            Some(name) => added.push(name)?,
+            None => return Err(NoMemory),
+        }
+    }
+    Ok(added)
+}
+
+/// The record of an interface, and none of an alias.
+fn body_of_form<'a>(
+    alloc: Global,
+    names: Lookups<'a>,
+    form: Form<'a>,
+) -> Result<Vec<List<Field>>, NoMemory>
+    ensures { IfOk result (λ v. every (bodies_of_form (names_in names.entry) (form_of form.entry)) ≡ Some v.items) }
+{
+    let mut body = Vec::new(alloc);
+    match form {
+        Form::Interface(_, fields) => match fields_of(alloc, names, fields)? {
+            Some(fields) => {
+                body.push(fields)?;
+                Ok(body)
+            }
+            None => Err(NoMemory),
+        },
+        Form::Alias(_) => Ok(body),
+    }
+}
+
+/// The records of the interfaces that are added.
+fn added_bodies<'a>(
+    alloc: Global,
+    names: Lookups<'a>,
+    declared: &[Declaration<'a>],
+) -> Result<List<List<Field>>, NoMemory>
+    ensures { IfOk result (λ v. every (bodies_of (names_in names.entry) (declared_in declared.now)) ≡ Some v) }
+{
+    let mut added = List::new(alloc);
+    for declaration in declared {
+        let body = body_of_form(alloc, names, declaration.form)?;
+        append(alloc, &mut added, body)?;
+    }
+    Ok(added)
+}
+
+/// What is read, where names have these types.
+fn read_named<'a>(
+    alloc: Global,
+    of: &[u8],
+    module: Module<'a>,
+    names: Lookups<'a>,
+    order: &[usize],
+    annotations: &[Annotation<'a>],
+) -> Result<Read, Failure>
+    requires { «module».own.now ≡ own_names_of (declared_in «module».declared.now) }
+    ensures { IsReadOf of.now (names_in names.entry) (declared_in «module».entry.declared.now) (map annotation_of annotations.now) result }
+{
+    check_declarations(alloc, module, names, order)?;
+    let types = read_annotations(alloc, names, annotations)?;
+    let added = added_names(alloc, of, names, module.declared)?;
+    let bodies = added_bodies(alloc, names, module.declared)?;
+    Ok(Read {
+        types,
+        names: added,
+        bodies,
+    })
+}
+
+/// What is read of a module whose names are declared.
+fn read_declared<'a>(
+    alloc: Global,
+    of: &[u8],
+    module: Module<'a>,
+    annotations: &[Annotation<'a>],
+) -> Result<Read, Failure>
+    requires { «module».own.now ≡ own_names_of (declared_in «module».declared.now) }
+    ensures { IsRead of.now «module».entry.known.now (declared_in «module».entry.declared.now) (map annotation_of annotations.now) result }
+{
+    let order = order(alloc, module.own, module.declared)?;
+    let types = find_types(alloc, module, &order)?;
+    let names = Lookups {
+        known: module.known,
+        own: module.own,
+        types: types.as_slice(),
+    };
+    read_named(alloc, of, module, names, &order, annotations)
+}
