@@ -8,3 +8,4 @@ pub mod Entries
 pub mod Sweeping
 pub mod Flags
 pub mod Readings
+pub mod Indexing

@@ -1,14 +1,15 @@
 -- What has been read so far of annotations and of declarations.
 use Rattle.std.proofs.Common.{◌≡◌, ℕ, zero, suc, ◌+◌, ◌<◌, List, [], ◌∷◌, ◌++◌, map, length, get_or, take, drop, refl, ap, ◌∙◌, sym, arith, add-one, subst}
-use Rattle.std.specs.Prelude.{Option, Some, None, Result}
+use Rattle.std.specs.Prelude.{Option, Some, None, Result, Err}
 use Rattle.type_reader.specs.declared.refusals.Failure.{Failure}
+use Rattle.type_reader.specs.declared.refusals.Failure.TheVariants as failure
 use Rattle.lua_tree.specs.declared.scoped.Scoped.{Scoped}
 use Rattle.type_reader.specs.declared.names.TypeName.{TypeName}
 use Rattle.type_reader.specs.declared.names.TypeNames.{TypeNames}
 use Rattle.type_reader.specs.declared.reading.Read.{Read}
 use Rattle.type_reader.specs.Annotations.{Annotations}
 use Rattle.type_reader.specs.Answers.{Answers}
-use Rattle.type_reader.specs.Outcomes.{IsRead, IsReadWhole, IsReadModule}
+use Rattle.type_reader.specs.Outcomes.{IsRead, IsReadModule}
 use Rattle.std.specs.Option.{option_or}
 use Rattle.std.specs.List.{flat_map}
 use Rattle.std.proofs.lemmas.List.{take_more, map-append}
@@ -48,15 +49,24 @@ bodies_next names xs i d ys bs within is before here =
     ∙ ap (λ o. both (λ a b. a ++ b) (Some ys) o) here
 
 -- the names' own faults come first
-pub whole : (of : List ℕ) (known : List TypeName) (ds : List Declaration) (xs : Annotations) (r : Result Read Failure) → repeated_name ds ≡ None → IsRead of known ds xs r → IsReadWhole of known ds xs r
-whole of known ds xs r none told =
-    let R : Fault → Type 0 = λ f. Answers (option_or f (faults_after_names ds (names_in known ds) xs)) r in
-    record { answers = subst R (sym none) told.answers; types = told.types; names_added = told.names_added; bodies_added = told.bodies_added }
+module _ (of : List ℕ) (known : TypeNames) (s : Scoped) (ds : List Declaration) (xs : Annotations) (r : Result Read Failure) where
+  pub whole : repeated_name ds ≡ None → ds ≡ declarations_in known s → xs ≡ annotations_in s → IsRead of known.names ds xs r → IsReadModule of known s r
+  whole none same_ds same_xs told =
+      let P : List Declaration → Type 0 = λ d. (repeated_name d ≡ None) × IsRead of known.names d xs r in
+      let Q : Annotations → Type 0 = λ x. IsRead of known.names (declarations_in known s) x r in
+      let all : (repeated_name (declarations_in known s) ≡ None) × IsRead of known.names (declarations_in known s) xs r = subst P same_ds (none, told) in
+      let read : IsRead of known.names (declarations_in known s) (annotations_in s) r = subst Q same_xs all.1 in
+      let R : Fault → Type 0 = λ f. Answers (option_or f (faults_after_names (declarations_in known s) (names_in known.names (declarations_in known s)) (annotations_in s))) r in
+      record { answers = subst R (sym all.0) read.answers; types = read.types; names_added = read.names_added; bodies_added = read.bodies_added }
 
-pub read_whole : (of : List ℕ) (known : TypeNames) (s : Scoped) (ds : List Declaration) (xs : Annotations) (r : Result Read Failure)
-    → ds ≡ declarations_in known s → xs ≡ annotations_in s → IsReadWhole of known.names ds xs r → IsReadModule of known s r
-read_whole of known s ds xs r same_ds same_xs told =
-    let P : List Declaration → Type 0 = λ d. IsReadWhole of known.names d xs r in
-    let Q : Annotations → Type 0 = λ x. IsReadWhole of known.names (declarations_in known s) x r in
-    let all : IsReadWhole of known.names (declarations_in known s) (annotations_in s) r = subst Q same_xs (subst P same_ds told) in
-    record { answers = all.answers; types = all.types; names_added = all.names_added; bodies_added = all.bodies_added }
+-- what is refused is whole
+pub refused_whole : (A : Type 0) (of : List ℕ) (known : TypeNames) (s : Scoped) (ds : List Declaration) (e : Failure) → ds ≡ declarations_in known s → Answers {A = A} (repeated_name ds) (Err e) → IsReadModule of known s (Err e)
+refused_whole A of known s ds (failure.Refused r) same told =
+    let one : repeated_name (declarations_in known s) ≡ Some r = ap repeated_name (sym same) ∙ told in
+    record {
+      answers = ap (λ f. option_or f (faults_after_names (declarations_in known s) (names_in known.names (declarations_in known s)) (annotations_in s))) one;
+      types = tt;
+      names_added = tt;
+      bodies_added = tt;
+    }
+refused_whole A of known s ds failure.NoMemory same told = record { answers = tt; types = tt; names_added = tt; bodies_added = tt }

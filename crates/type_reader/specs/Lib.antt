@@ -10,5 +10,6 @@ pub mod Lookups
 pub mod SeenUses
 pub mod Lent
 pub mod Growing
+pub mod Indexed
 pub mod Rising
 pub mod Outcomes

@@ -9,7 +9,7 @@ use Rattle.type_reader.specs.Annotations.{Annotations}
 use Rattle.type_reader.specs.Names.{Names}
 use Rattle.type_reader.specs.Types.{every}
 use Rattle.type_reader.specs.Declarations.{Declaration, names_in}
-use Rattle.type_reader.specs.Reading.{annotation_type, entry_of, bodies_of, faults_after_names, module_fault, fault_in, types_in, added_names, added_bodies}
+use Rattle.type_reader.specs.Reading.{annotation_type, entry_of, bodies_of, faults_after_names, fault_in, types_in, added_names, added_bodies}
 use Rattle.type_reader.specs.Answers.{Answers}
 
 -- what is read of annotations and declarations where names have these types: their first fault, or all that they give
@@ -21,13 +21,6 @@ pub record IsReadOf (of : List ℕ) (names : Names) (ds : List Declaration) (xs 
 
 abbrev pub IsRead : List ℕ → List TypeName → List Declaration → Annotations → Result Read Failure → Type 0
 IsRead of known ds xs r = IsReadOf of (names_in known ds) ds xs r
-
--- the same, after the names of the declarations
-pub record IsReadWhole (of : List ℕ) (known : List TypeName) (ds : List Declaration) (xs : Annotations) (r : Result Read Failure) : Type 0 where
-  pub answers : Answers (module_fault ds (names_in known ds) xs) r
-  pub types : IfOk r (λ x. every (map (annotation_type (names_in known ds)) xs) ≡ Some x.types)
-  pub names_added : IfOk r (λ x. every (map (entry_of of (names_in known ds)) ds) ≡ Some x.names.items)
-  pub bodies_added : IfOk r (λ x. every (bodies_of (names_in known ds) ds) ≡ Some x.bodies)
 
 -- what is read of a module
 pub record IsReadModule (of : List ℕ) (known : TypeNames) (s : Scoped) (r : Result Read Failure) : Type 0 where

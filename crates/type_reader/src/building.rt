@@ -115,7 +115,7 @@ fn tuple_type_of(
 /// The type of a name.
 fn named_type<'a>(
     alloc: Global,
-    names: Lookups<'a>,
+    names: Lookups<'_, 'a>,
     parts: &'a [Bytes],
     name: &'a [u8],
 ) -> Result<Option<Ty>, NoMemory>
@@ -136,7 +136,7 @@ fn named_type<'a>(
 #[cycle(building)]
 pub fn type_of<'a>(
     alloc: Global,
-    names: Lookups<'a>,
+    names: Lookups<'_, 'a>,
     e: &'a TypeExpr,
 ) -> Result<Option<Ty>, NoMemory>
     ensures { IfOk result (λ r. r ≡ type_of_written (names_in names.entry) e.now) }
@@ -183,7 +183,7 @@ pub fn type_of<'a>(
 #[cycle(building)]
 fn types_of<'a>(
     alloc: Global,
-    names: Lookups<'a>,
+    names: Lookups<'_, 'a>,
     types: &'a [TypeExpr],
 ) -> Result<Option<List<Ty>>, NoMemory>
     ensures { IfOk result (λ r. r ≡ every (map (type_of_written (names_in names.entry)) types.now)) }
@@ -201,7 +201,7 @@ fn types_of<'a>(
 #[cycle(building)]
 fn field_of<'a>(
     alloc: Global,
-    names: Lookups<'a>,
+    names: Lookups<'_, 'a>,
     field: &'a TypeField,
 ) -> Result<Option<Field>, NoMemory>
     ensures { IfOk result (λ r. r ≡ field_of_written (names_in names.entry) field.now) }
@@ -220,7 +220,7 @@ fn field_of<'a>(
 #[cycle(building)]
 pub fn fields_of<'a>(
     alloc: Global,
-    names: Lookups<'a>,
+    names: Lookups<'_, 'a>,
     fields: &'a [TypeField],
 ) -> Result<Option<List<Field>>, NoMemory>
     ensures { IfOk result (λ r. r ≡ fields_of_written (names_in names.entry) fields.now) }
@@ -239,7 +239,7 @@ pub fn fields_of<'a>(
 #[cycle(building)]
 fn tail_of<'a>(
     alloc: Global,
-    names: Lookups<'a>,
+    names: Lookups<'_, 'a>,
     tail: &'a Option<Boxed<TypeExpr>>,
     absent: Ty,
 ) -> Result<Option<Ty>, NoMemory>
@@ -255,7 +255,7 @@ fn tail_of<'a>(
 #[cycle(building)]
 fn tuple_of<'a>(
     alloc: Global,
-    names: Lookups<'a>,
+    names: Lookups<'_, 'a>,
     tuple: &'a TypeTuple,
     absent: Ty,
 ) -> Result<Option<Tuple>, NoMemory>
@@ -269,7 +269,7 @@ fn tuple_of<'a>(
 #[cycle(building)]
 fn tuples_of<'a>(
     alloc: Global,
-    names: Lookups<'a>,
+    names: Lookups<'_, 'a>,
     tuples: &'a [TypeTuple],
 ) -> Result<Option<List<Tuple>>, NoMemory>
     ensures { IfOk result (λ r. r ≡ every (map (λ p. p t.Nil) (map (tuple_of_written (names_in names.entry)) tuples.now))) }
@@ -288,7 +288,7 @@ fn tuples_of<'a>(
 #[cycle(building)]
 pub fn results_of<'a>(
     alloc: Global,
-    names: Lookups<'a>,
+    names: Lookups<'_, 'a>,
     results: &'a TypeResults,
 ) -> Result<Option<Results>, NoMemory>
     ensures { IfOk result (λ r. r ≡ results_of_written (names_in names.entry) results.now) }
@@ -310,7 +310,7 @@ fn body_type(alloc: Global, results: Option<Results>) -> Result<Option<Ty>, NoMe
 /// The type that stands for the results of a body.
 pub fn body_of<'a>(
     alloc: Global,
-    names: Lookups<'a>,
+    names: Lookups<'_, 'a>,
     results: &'a TypeResults,
 ) -> Result<Option<Ty>, NoMemory>
     ensures { IfOk result (λ r. r ≡ body_of_written (names_in names.entry) results.now) }

@@ -78,7 +78,7 @@ fn is_key_built_in(built_in: BuiltIn) -> bool
 /// Whether a name may be that of a key type. A name without a type has its fault elsewhere.
 fn is_key_name<'a>(
     alloc: Global,
-    names: Lookups<'a>,
+    names: Lookups<'_, 'a>,
     parts: &'a [Bytes],
     name: &'a [u8],
 ) -> Result<bool, NoMemory>
@@ -93,7 +93,7 @@ fn is_key_name<'a>(
 
 /// Whether a type that is written may be a key type.
 #[cycle(keys)]
-fn is_key<'a>(alloc: Global, names: Lookups<'a>, e: &'a TypeExpr) -> Result<bool, NoMemory>
+fn is_key<'a>(alloc: Global, names: Lookups<'_, 'a>, e: &'a TypeExpr) -> Result<bool, NoMemory>
     ensures { IfOk result (λ b. b ≡ (told_of (names_in names.entry) e.now).key) }
 {
     match e {
@@ -108,7 +108,7 @@ fn is_key<'a>(alloc: Global, names: Lookups<'a>, e: &'a TypeExpr) -> Result<bool
 }
 
 #[cycle(keys)]
-fn are_keys<'a>(alloc: Global, names: Lookups<'a>, types: &'a [TypeExpr]) -> Result<bool, NoMemory>
+fn are_keys<'a>(alloc: Global, names: Lookups<'_, 'a>, types: &'a [TypeExpr]) -> Result<bool, NoMemory>
     ensures { IfOk result (λ b. b ≡ list_all (λ t. t.key) (map (told_of (names_in names.entry)) types.now)) }
 {
     for e in types {
@@ -122,7 +122,7 @@ fn are_keys<'a>(alloc: Global, names: Lookups<'a>, types: &'a [TypeExpr]) -> Res
 /// Whether a name is known.
 fn check_name<'a>(
     alloc: Global,
-    names: Lookups<'a>,
+    names: Lookups<'_, 'a>,
     pos: Pos,
     parts: &'a [Bytes],
     name: &'a [u8],
@@ -137,7 +137,7 @@ fn check_name<'a>(
 
 /// The first fault of a type that is written, its size aside.
 #[cycle(checking)]
-pub fn check_type<'a>(alloc: Global, names: Lookups<'a>, e: &'a TypeExpr) -> Result<(), Failure>
+pub fn check_type<'a>(alloc: Global, names: Lookups<'_, 'a>, e: &'a TypeExpr) -> Result<(), Failure>
     ensures { Answers (type_fault (names_in names.entry) e.now) result }
 {
     match e {
@@ -165,7 +165,7 @@ pub fn check_type<'a>(alloc: Global, names: Lookups<'a>, e: &'a TypeExpr) -> Res
 
 /// The first fault of a key's type.
 #[cycle(checking)]
-fn check_key<'a>(alloc: Global, names: Lookups<'a>, e: &'a TypeExpr) -> Result<(), Failure>
+fn check_key<'a>(alloc: Global, names: Lookups<'_, 'a>, e: &'a TypeExpr) -> Result<(), Failure>
     ensures { Answers (key_fault (told_of (names_in names.entry) e.now)) result }
 {
     check_type(alloc, names, e)?;
@@ -177,7 +177,7 @@ fn check_key<'a>(alloc: Global, names: Lookups<'a>, e: &'a TypeExpr) -> Result<(
 }
 
 #[cycle(checking)]
-fn check_types<'a>(alloc: Global, names: Lookups<'a>, types: &'a [TypeExpr]) -> Result<(), Failure>
+fn check_types<'a>(alloc: Global, names: Lookups<'_, 'a>, types: &'a [TypeExpr]) -> Result<(), Failure>
     ensures { Answers (first_of (map (λ t. t.fault) (map (told_of (names_in names.entry)) types.now))) result }
 {
     for e in types {
@@ -190,7 +190,7 @@ fn check_types<'a>(alloc: Global, names: Lookups<'a>, types: &'a [TypeExpr]) -> 
 #[cycle(checking)]
 pub fn check_fields<'a>(
     alloc: Global,
-    names: Lookups<'a>,
+    names: Lookups<'_, 'a>,
     fields: &'a [TypeField],
 ) -> Result<(), Failure>
     ensures { Answers (record_fault (names_in names.entry) fields.now) result }
@@ -206,7 +206,7 @@ pub fn check_fields<'a>(
 }
 
 #[cycle(checking)]
-fn check_tuple<'a>(alloc: Global, names: Lookups<'a>, tuple: &'a TypeTuple) -> Result<(), Failure>
+fn check_tuple<'a>(alloc: Global, names: Lookups<'_, 'a>, tuple: &'a TypeTuple) -> Result<(), Failure>
     ensures { Answers (tuple_fault (names_in names.entry) tuple.now) result }
 {
     check_types(alloc, names, tuple.items.as_slice())?;
@@ -220,7 +220,7 @@ fn check_tuple<'a>(alloc: Global, names: Lookups<'a>, tuple: &'a TypeTuple) -> R
 #[cycle(checking)]
 pub fn check_results<'a>(
     alloc: Global,
-    names: Lookups<'a>,
+    names: Lookups<'_, 'a>,
     results: &'a TypeResults,
 ) -> Result<(), Failure>
     ensures { Answers (results_fault (names_in names.entry) results.now) result }

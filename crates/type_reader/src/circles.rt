@@ -12,7 +12,7 @@ use std::alloc::Global;
 use tl_base::NoMemory;
 
 /// Whether a name of the module's own has its flag.
-fn has_flag<'a>(own: &'a OwnNames<'a>, flags: &[bool], name: &'a [u8]) -> bool
+fn has_flag<'a>(own: &OwnNames<'a>, flags: &[bool], name: &'a [u8]) -> bool
     ensures { result ≡ own_flag own.now flags.now name.now }
 {
     match own.find(name) {
@@ -25,7 +25,7 @@ fn has_flag<'a>(own: &'a OwnNames<'a>, flags: &[bool], name: &'a [u8]) -> bool
 }
 
 /// Whether one of the module's own names that are used is this one, or has its flag.
-fn one_leads<'a>(own: &'a OwnNames<'a>, to: &'a [u8], flags: &[bool], uses: &Uses<'a>) -> bool
+fn one_leads<'a>(own: &OwnNames<'a>, to: &'a [u8], flags: &[bool], uses: &Uses<'a>) -> bool
     ensures { result ≡ uses_lead own.now to.now flags.now (own_uses (used_in uses.now)) }
 {
     for used in uses.as_slice() {
@@ -44,7 +44,7 @@ fn one_leads<'a>(own: &'a OwnNames<'a>, to: &'a [u8], flags: &[bool], uses: &Use
 /// Whether what is declared leads there by the flags.
 fn form_leads<'a>(
     alloc: Global,
-    own: &'a OwnNames<'a>,
+    own: &OwnNames<'a>,
     to: &'a [u8],
     flags: &[bool],
     form: Form<'a>,
@@ -64,7 +64,7 @@ fn form_leads<'a>(
 /// Gives one name its flag, where it has none and leads there. It says whether it did.
 fn turn<'a>(
     alloc: Global,
-    module: Module<'a>,
+    module: Module<'_, 'a>,
     to: &'a [u8],
     flags: &mut Vec<bool>,
     at: usize,
@@ -101,7 +101,7 @@ fn no_flags(alloc: Global, declared: &[Declaration<'_>]) -> Result<Vec<bool>, No
 /// Gives flags to names in this order, as far as they lead there.
 fn turn_in_order<'a>(
     alloc: Global,
-    module: Module<'a>,
+    module: Module<'_, 'a>,
     to: &'a [u8],
     flags: &mut Vec<bool>,
     order: &[usize],
@@ -119,7 +119,7 @@ fn turn_in_order<'a>(
 /// Gives flags to all names that lead there by the flags, and says whether there was one.
 fn pass<'a>(
     alloc: Global,
-    module: Module<'a>,
+    module: Module<'_, 'a>,
     to: &'a [u8],
     flags: &mut Vec<bool>,
 ) -> Result<bool, NoMemory>
@@ -139,7 +139,7 @@ fn pass<'a>(
 /// Which of the module's own names lead to this one by aliases. The order tells in which they are looked at first.
 fn find_flags<'a>(
     alloc: Global,
-    module: Module<'a>,
+    module: Module<'_, 'a>,
     to: &'a [u8],
     order: &[usize],
 ) -> Result<Vec<bool>, NoMemory>
@@ -155,7 +155,7 @@ fn find_flags<'a>(
 /// Whether the alias of a name leads to itself by aliases.
 pub fn is_circular<'a>(
     alloc: Global,
-    module: Module<'a>,
+    module: Module<'_, 'a>,
     name: &'a [u8],
     order: &[usize],
 ) -> Result<bool, NoMemory>

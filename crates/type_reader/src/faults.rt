@@ -24,7 +24,7 @@ use tl_types::Ty;
 /// Where all names that are used have types and yet there is none, it is too large.
 fn check_size<'a>(
     alloc: Global,
-    names: Lookups<'a>,
+    names: Lookups<'_, 'a>,
     pos: Pos,
     uses: &Uses<'a>,
     ty: &Option<Ty>,
@@ -43,7 +43,7 @@ fn check_size<'a>(
 /// The type that is written, or its first fault. The place is where one that is too large is told.
 pub fn read_type<'a>(
     alloc: Global,
-    names: Lookups<'a>,
+    names: Lookups<'_, 'a>,
     pos: Pos,
     e: &'a TypeExpr,
 ) -> Result<Option<Ty>, Failure>
@@ -61,7 +61,7 @@ pub fn read_type<'a>(
 /// The function type that stands for the results of a body, or their first fault.
 pub fn read_results<'a>(
     alloc: Global,
-    names: Lookups<'a>,
+    names: Lookups<'_, 'a>,
     results: &'a TypeResults,
 ) -> Result<Option<Ty>, Failure>
     ensures answers { Answers (results_faults (names_in names.entry) results.now) result }
@@ -78,7 +78,7 @@ pub fn read_results<'a>(
 /// The first fault of an interface.
 fn check_interface<'a>(
     alloc: Global,
-    names: Lookups<'a>,
+    names: Lookups<'_, 'a>,
     pos: Pos,
     fields: &'a [TypeField],
 ) -> Result<(), Failure>
@@ -92,7 +92,7 @@ fn check_interface<'a>(
 }
 
 /// Whether a name of the module's own has no type.
-fn is_untyped<'a>(names: Lookups<'a>, name: &'a [u8]) -> bool
+fn is_untyped<'a>(names: Lookups<'_, 'a>, name: &'a [u8]) -> bool
     ensures { result ≡ is_none ((names_in names.entry).ty [] name.now) }
 {
     match names.own(name) {
@@ -104,8 +104,8 @@ fn is_untyped<'a>(names: Lookups<'a>, name: &'a [u8]) -> bool
 /// Whether an alias leads to itself by aliases; then it has no type.
 fn check_circle<'a>(
     alloc: Global,
-    module: Module<'a>,
-    names: Lookups<'a>,
+    module: Module<'_, 'a>,
+    names: Lookups<'_, 'a>,
     declaration: &Declaration<'a>,
     order: &[usize],
 ) -> Result<(), Failure>
@@ -125,8 +125,8 @@ fn check_circle<'a>(
 /// The first fault of a declaration of its own.
 fn check_declaration<'a>(
     alloc: Global,
-    module: Module<'a>,
-    names: Lookups<'a>,
+    module: Module<'_, 'a>,
+    names: Lookups<'_, 'a>,
     declaration: &Declaration<'a>,
     order: &[usize],
 ) -> Result<(), Failure>
@@ -146,8 +146,8 @@ fn check_declaration<'a>(
 /// The first fault of the declarations, each one's own.
 pub fn check_declarations<'a>(
     alloc: Global,
-    module: Module<'a>,
-    names: Lookups<'a>,
+    module: Module<'_, 'a>,
+    names: Lookups<'_, 'a>,
     order: &[usize],
 ) -> Result<(), Failure>
     requires { «module».own.now ≡ own_names_of (declared_in «module».declared.now) }

@@ -12,6 +12,7 @@ mod joining;
 mod lookups;
 mod names;
 mod order;
+mod other_names;
 mod own_names;
 mod reading;
 mod refusals;
@@ -19,3 +20,5 @@ mod typing;
 mod uses;
 
 pub use names::{TypeName, TypeNames};
+pub use reading::{TypedChunk, read_types};
+pub use refusals::{Failure, Refusal, RefusalCode};

@@ -1,8 +1,8 @@
-ghost use Rattle.std.specs.Prelude.{◌≡◌, ◌∷◌, ◌++◌, [], map, option_map, IfOk, OnOk};
-ghost use Rattle.type_reader.specs.Names.{dotted, built_in, elsewhere, place_in, has_name, name_type};
+ghost use Rattle.std.specs.Prelude.{◌≡◌, [], option_map, IfOk};
+ghost use Rattle.type_reader.specs.Names.{dotted, built_in, has_name, name_type};
 ghost use Rattle.type_reader.specs.Lookups.{built_in_type, is_found, found_type};
 
-use crate::names::TypeName;
+use crate::other_names::OtherNames;
 use crate::own_names::OwnNames;
 use std::alloc::Global;
 use tl_base::{Bytes, NoMemory};
@@ -30,10 +30,10 @@ pub enum Found<'a> {
 
 /// The names of the other modules, and the module's own with the types that they have.
 #[derive(Clone, Copy)]
-pub struct Lookups<'a> {
-    pub known: &'a [TypeName],
-    pub own: &'a OwnNames<'a>,
-    pub types: &'a [Option<Ty>],
+pub struct Lookups<'n, 'a> {
+    pub known: &'n OtherNames<'a>,
+    pub own: &'n OwnNames<'a>,
+    pub types: &'n [Option<Ty>],
 }
 
 /// The parts of a module's name with dots between them.
@@ -67,21 +67,9 @@ pub fn built_in_named(name: &[u8]) -> Option<BuiltIn>
     }
 }
 
-/// The type name of another module.
-fn other<'a>(known: &'a [TypeName], of: &Bytes, name: &[u8]) -> Option<&'a TypeName>
-    ensures { option_map (λ k. k.now) result ≡ elsewhere known.now of.now name.now }
-{
-    for entry in known {
-        if entry.module.as_slice() == of.as_slice() && entry.name.as_slice() == name {
-            return Some(entry);
-        }
-    }
-    None
-}
-
-impl<'a> Lookups<'a> {
+impl<'n, 'a> Lookups<'n, 'a> {
     /// A name of the module's own, or a built-in one.
-    pub fn own(self, name: &'a [u8]) -> Found<'a>
+    pub fn own(self, name: &'a [u8]) -> Found<'n>
         ensures has { is_found result ≡ has_name self.entry.known.now self.entry.own.now [] name.now }
         ensures ty { found_type result ≡ name_type self.entry.known.now self.entry.own.now self.entry.types.now [] name.now }
     {
@@ -98,7 +86,7 @@ impl<'a> Lookups<'a> {
     }
 
     /// What a name stands for, behind the parts of its module's name.
-    pub fn find(self, alloc: Global, parts: &[Bytes], name: &'a [u8]) -> Result<Found<'a>, NoMemory>
+    pub fn find(self, alloc: Global, parts: &[Bytes], name: &'a [u8]) -> Result<Found<'n>, NoMemory>
         ensures has { IfOk result (λ f. is_found f ≡ has_name self.entry.known.now self.entry.own.now parts.now name.now) }
         ensures ty { IfOk result (λ f. found_type f ≡ name_type self.entry.known.now self.entry.own.now self.entry.types.now parts.now name.now) }
     {
@@ -106,8 +94,8 @@ impl<'a> Lookups<'a> {
             return Ok(self.own(name));
         };
         let module = joined(alloc, first, rest)?;
-        match other(self.known, &module, name) {
-            Some(entry) => Ok(Found::Type(&entry.ty)),
+        match self.known.find(module.as_slice(), name) {
+            Some(ty) => Ok(Found::Type(ty)),
             None => Ok(Found::Unknown),
         }
     }

@@ -12,7 +12,7 @@ struct Frame {
 }
 
 /// The declarations that each alias uses, by their numbers.
-fn edges<'a>(alloc: Global, own: &'a OwnNames<'a>, form: Form<'a>) -> Result<Vec<usize>, NoMemory> {
+fn edges<'a>(alloc: Global, own: &OwnNames<'a>, form: Form<'a>) -> Result<Vec<usize>, NoMemory> {
     let mut found = Vec::new(alloc);
     if let Form::Alias(e) = form {
         let mut uses = Uses::new(alloc);
@@ -31,7 +31,7 @@ fn edges<'a>(alloc: Global, own: &'a OwnNames<'a>, form: Form<'a>) -> Result<Vec
 /// The uses of all declarations, and how many there are.
 fn all_edges<'a>(
     alloc: Global,
-    own: &'a OwnNames<'a>,
+    own: &OwnNames<'a>,
     declared: &[Declaration<'a>],
 ) -> Result<Vec<Vec<usize>>, NoMemory> {
     let mut all = Vec::new(alloc);
@@ -94,7 +94,7 @@ impl Walk {
 /// no order. No call nests, however long a chain of aliases is.
 pub fn order<'a>(
     alloc: Global,
-    own: &'a OwnNames<'a>,
+    own: &OwnNames<'a>,
     declared: &[Declaration<'a>],
 ) -> Result<Vec<usize>, NoMemory> {
     let edges = all_edges(alloc, own, declared)?;

@@ -1,29 +1,37 @@
-ghost use Rattle.std.specs.Prelude.{◌≡◌, [], map, Some, IfOk};
+ghost use Rattle.std.specs.Prelude.{◌≡◌, [], map, Some, IfOk, OnOk, OnErr};
 ghost use Rattle.type_reader.specs.Answers.{Answers};
 ghost use Rattle.type_reader.specs.Declarations.{own_names as own_names_of};
 ghost use Rattle.type_reader.specs.Faults.{first_of};
 ghost use Rattle.type_reader.specs.Lent.{declared_in, declaration_of, form_of};
-ghost use Rattle.type_reader.specs.Outcomes.{IsRead, IsReadOf};
+ghost use Rattle.type_reader.specs.Outcomes.{IsRead, IsReadModule, IsReadOf};
 ghost use Rattle.type_reader.specs.Lookups.{built_in_type, names_in};
-ghost use Rattle.type_reader.specs.Reading.{type_faults, place_of as place_in_tree, used_fault, annotation_type, entry_of, bodies_of, bodies_of_form};
+ghost use Rattle.type_reader.specs.Reading.{type_faults, place_of as place_in_tree, used_fault, annotation_type, entry_of, bodies_of, bodies_of_form, fault_in, types_in, IsJoined};
 ghost use Rattle.type_reader.specs.Seen.{annotation_of};
 ghost use Rattle.type_reader.specs.Types.{every, type_of as type_of_written};
 
-use crate::annotations::Annotation;
+use crate::annotations::{Annotation, Annotations};
 use crate::building::fields_of;
 use crate::checking::place_of;
-use crate::declarations::{Declaration, Form};
+use crate::declarations::{Declaration, Form, declare, own_names};
 use crate::faults::{check_declarations, read_results, read_type};
-use crate::joining::append;
+use crate::joining::{append, join};
 use crate::lookups::{BuiltIn, Found, Lookups};
-use crate::names::TypeName;
+use crate::names::{TypeName, TypeNames};
 use crate::order::order;
+use crate::other_names::OtherNames;
 use crate::refusals::Failure;
 use crate::typing::{Module, find_types};
-use lua_tree::TypeExpr;
+use lua_tree::{Scoped, TypeExpr};
 use std::alloc::Global;
 use tl_base::{Bytes, List, NoMemory};
 use tl_types::{Field, Ty, boolean};
+
+/// The types of a module's annotations in order of place. The results of a body stand as the function with these results and no listed parameter, which takes
+/// every value; an interface statement stands as its interface, and an alias as its type.
+#[derive(Drop)]
+pub struct TypedChunk {
+    pub types: List<Ty>,
+}
 
 /// What is read of a module: the types of its annotations, and the names and the records of interfaces that it adds.
 #[derive(Drop)]
@@ -46,7 +54,7 @@ fn built_in(alloc: Global, built_in: BuiltIn) -> Result<Ty, NoMemory>
 }
 
 /// The type of a name of the module's own.
-fn own_type<'a>(alloc: Global, names: Lookups<'a>, name: &'a [u8]) -> Result<Option<Ty>, NoMemory>
+fn own_type<'a>(alloc: Global, names: Lookups<'_, 'a>, name: &'a [u8]) -> Result<Option<Ty>, NoMemory>
     ensures { IfOk result (λ t. t ≡ (names_in names.entry).ty [] name.now) }
 {
     match names.own(name) {
@@ -59,7 +67,7 @@ fn own_type<'a>(alloc: Global, names: Lookups<'a>, name: &'a [u8]) -> Result<Opt
 /// The type that is written, or its first fault.
 fn read_written<'a>(
     alloc: Global,
-    names: Lookups<'a>,
+    names: Lookups<'_, 'a>,
     e: &'a TypeExpr,
 ) -> Result<Option<Ty>, Failure>
     ensures answers { Answers (type_faults (names_in names.entry) (place_in_tree (names_in names.entry) e.now) e.now) result }
@@ -71,7 +79,7 @@ fn read_written<'a>(
 /// What stands for an annotation, or its first fault; declarations have theirs before.
 fn read_annotation<'a>(
     alloc: Global,
-    names: Lookups<'a>,
+    names: Lookups<'_, 'a>,
     annotation: Annotation<'a>,
 ) -> Result<Option<Ty>, Failure>
     ensures answers { Answers (used_fault (names_in names.entry) (annotation_of annotation.entry)) result }
@@ -89,7 +97,7 @@ fn read_annotation<'a>(
 /// What stands for the annotations, or the first fault of those that declare nothing.
 fn read_annotations<'a>(
     alloc: Global,
-    names: Lookups<'a>,
+    names: Lookups<'_, 'a>,
     annotations: &[Annotation<'a>],
 ) -> Result<List<Ty>, Failure>
     ensures answers { Answers (first_of (map (used_fault (names_in names.entry)) (map annotation_of annotations.now))) result }
@@ -109,7 +117,7 @@ fn read_annotations<'a>(
 fn added_name<'a>(
     alloc: Global,
     of: &[u8],
-    names: Lookups<'a>,
+    names: Lookups<'_, 'a>,
     declaration: Declaration<'a>,
 ) -> Result<Option<TypeName>, NoMemory>
     ensures { IfOk result (λ n. n ≡ entry_of of.now (names_in names.entry) (declaration_of declaration.entry)) }
@@ -129,7 +137,7 @@ fn added_name<'a>(
 fn added_names<'a>(
     alloc: Global,
     of: &[u8],
-    names: Lookups<'a>,
+    names: Lookups<'_, 'a>,
     declared: &[Declaration<'a>],
 ) -> Result<Vec<TypeName>, NoMemory>
     ensures { IfOk result (λ v. every (map (entry_of of.now (names_in names.entry)) (declared_in declared.now)) ≡ Some v.items) }
@@ -147,7 +155,7 @@ fn added_names<'a>(
 /// The record of an interface, and none of an alias.
 fn body_of_form<'a>(
     alloc: Global,
-    names: Lookups<'a>,
+    names: Lookups<'_, 'a>,
     form: Form<'a>,
 ) -> Result<Vec<List<Field>>, NoMemory>
     ensures { IfOk result (λ v. every (bodies_of_form (names_in names.entry) (form_of form.entry)) ≡ Some v.items) }
@@ -168,7 +176,7 @@ fn body_of_form<'a>(
 /// The records of the interfaces that are added.
 fn added_bodies<'a>(
     alloc: Global,
-    names: Lookups<'a>,
+    names: Lookups<'_, 'a>,
     declared: &[Declaration<'a>],
 ) -> Result<List<List<Field>>, NoMemory>
     ensures { IfOk result (λ v. every (bodies_of (names_in names.entry) (declared_in declared.now)) ≡ Some v) }
@@ -185,8 +193,8 @@ fn added_bodies<'a>(
 fn read_named<'a>(
     alloc: Global,
     of: &[u8],
-    module: Module<'a>,
-    names: Lookups<'a>,
+    module: Module<'_, 'a>,
+    names: Lookups<'_, 'a>,
     order: &[usize],
     annotations: &[Annotation<'a>],
 ) -> Result<Read, Failure>
@@ -208,7 +216,7 @@ fn read_named<'a>(
 fn read_declared<'a>(
     alloc: Global,
     of: &[u8],
-    module: Module<'a>,
+    module: Module<'_, 'a>,
     annotations: &[Annotation<'a>],
 ) -> Result<Read, Failure>
     requires { «module».own.now ≡ own_names_of (declared_in «module».declared.now) }
@@ -222,4 +230,49 @@ fn read_declared<'a>(
         types: types.as_slice(),
     };
     read_named(alloc, of, module, names, &order, annotations)
+}
+
+/// What is read of a module.
+fn read_module<'a>(
+    alloc: Global,
+    of: &[u8],
+    scoped: &'a Scoped,
+    known: &'a TypeNames,
+) -> Result<Read, Failure>
+    ensures { IsReadModule of.now known.now scoped.now result }
+{
+    let mut annotations = Annotations::new(alloc);
+    annotations.block(&scoped.chunk.body)?;
+    let declared = declare(alloc, known.interfaces.bodies.len(), annotations.as_slice())?;
+    let own = own_names(alloc, &declared)?;
+    let others = OtherNames::new(alloc, known.names.as_slice())?;
+    let module = Module {
+        known: &others,
+        own: &own,
+        declared: &declared,
+    };
+    read_declared(alloc, of, module, annotations.as_slice())
+}
+
+/// The types of a module's annotations in order of place, where the module has this name. Its type names are known in all of it, whatever the order, and join
+/// those that are known. It is refused with the first of Y1 to Y5: repeated names come first, then declarations in order of place, then other annotations in
+/// order of place. After a refusal, and without memory, the names that are known stay as they were.
+pub fn read_types(
+    alloc: Global,
+    name: &[u8],
+    scoped: &Scoped,
+    known: &mut TypeNames,
+) -> Result<TypedChunk, Failure>
+    ensures answers { Answers (fault_in known.old scoped.now) result }
+    ensures types { IfOk result (λ t. types_in known.old scoped.now ≡ Some t.types) }
+    ensures joined { OnOk result (IsJoined name.now known.old scoped.now known.new) }
+    ensures kept { OnErr result (known.new ≡ known.old) }
+{
+    let Read {
+        types,
+        names,
+        bodies,
+    } = read_module(alloc, name, scoped, &*known)?;
+    join(alloc, known, names, bodies)?;
+    Ok(TypedChunk { types })
 }

@@ -9,7 +9,7 @@ ghost use Rattle.type_reader.specs.Growing.{Grows, Settles, Swept};
 use crate::building::type_of;
 use crate::declarations::{Declaration, Form};
 use crate::lookups::{Found, Lookups};
-use crate::names::TypeName;
+use crate::other_names::OtherNames;
 use crate::own_names::OwnNames;
 use crate::uses::Uses;
 use lua_tree::TypeExpr;
@@ -19,14 +19,14 @@ use tl_types::Ty;
 
 /// What stays the same while the types of the module's own names are found.
 #[derive(Clone, Copy)]
-pub struct Module<'a> {
-    pub known: &'a [TypeName],
-    pub own: &'a OwnNames<'a>,
-    pub declared: &'a [Declaration<'a>],
+pub struct Module<'m, 'a> {
+    pub known: &'m OtherNames<'a>,
+    pub own: &'m OwnNames<'a>,
+    pub declared: &'m [Declaration<'a>],
 }
 
 /// Whether each name that is used has a type.
-pub fn are_typed<'a>(alloc: Global, names: Lookups<'a>, uses: &Uses<'a>) -> Result<bool, NoMemory>
+pub fn are_typed<'a>(alloc: Global, names: Lookups<'_, 'a>, uses: &Uses<'a>) -> Result<bool, NoMemory>
     ensures { IfOk result (λ b. b ≡ are_typed_in (names_in names.entry) (used_in uses.now)) }
 {
     for used in uses.as_slice() {
@@ -41,7 +41,7 @@ pub fn are_typed<'a>(alloc: Global, names: Lookups<'a>, uses: &Uses<'a>) -> Resu
 /// The type of an alias, where each name in it has a type.
 pub fn alias_type<'a>(
     alloc: Global,
-    names: Lookups<'a>,
+    names: Lookups<'_, 'a>,
     e: &'a TypeExpr,
 ) -> Result<Option<Ty>, NoMemory>
     ensures { IfOk result (λ r. r ≡ alias_type_in (names_in names.entry) e.now) }
@@ -70,7 +70,7 @@ fn first_types(alloc: Global, declared: &[Declaration<'_>]) -> Result<Vec<Option
 }
 
 /// What a declaration stands for, where names have the types that were found.
-fn form_type<'a>(alloc: Global, names: Lookups<'a>, form: Form<'a>) -> Result<Option<Ty>, NoMemory>
+fn form_type<'a>(alloc: Global, names: Lookups<'_, 'a>, form: Form<'a>) -> Result<Option<Ty>, NoMemory>
     ensures { IfOk result (λ r. r ≡ form_type_in (names_in names.entry) (form_of form.entry)) }
 {
     match form {
@@ -82,7 +82,7 @@ fn form_type<'a>(alloc: Global, names: Lookups<'a>, form: Form<'a>) -> Result<Op
 /// Finds the type of one name, where it has none and it can be found. It says whether it was.
 fn settle<'a>(
     alloc: Global,
-    module: Module<'a>,
+    module: Module<'_, 'a>,
     types: &mut Vec<Option<Ty>>,
     at: usize,
 ) -> Result<bool, NoMemory>
@@ -113,7 +113,7 @@ fn settle<'a>(
 /// Finds the types of names in this order, as far as they can be found.
 fn settle_in_order<'a>(
     alloc: Global,
-    module: Module<'a>,
+    module: Module<'_, 'a>,
     types: &mut Vec<Option<Ty>>,
     order: &[usize],
 ) -> Result<(), NoMemory>
@@ -130,7 +130,7 @@ fn settle_in_order<'a>(
 /// Finds the types of all names that can be found from those that have one, and says whether there was one.
 fn sweep<'a>(
     alloc: Global,
-    module: Module<'a>,
+    module: Module<'_, 'a>,
     types: &mut Vec<Option<Ty>>,
 ) -> Result<bool, NoMemory>
     requires own { «module».own.now ≡ own_names_of (declared_in «module».declared.now) }
@@ -150,7 +150,7 @@ fn sweep<'a>(
 /// looked at first; where each alias stands behind those that it uses, they are found in one go.
 pub fn find_types<'a>(
     alloc: Global,
-    module: Module<'a>,
+    module: Module<'_, 'a>,
     order: &[usize],
 ) -> Result<Vec<Option<Ty>>, NoMemory>
     requires own { «module».own.now ≡ own_names_of (declared_in «module».declared.now) }
