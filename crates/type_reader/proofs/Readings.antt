@@ -4,7 +4,6 @@ use Rattle.std.specs.Prelude.{Option, Some, None, Result, Err}
 use Rattle.type_reader.specs.declared.refusals.Failure.{Failure}
 use Rattle.type_reader.specs.declared.refusals.Failure.TheVariants as failure
 use Rattle.lua_tree.specs.declared.scoped.Scoped.{Scoped}
-use Rattle.type_reader.specs.declared.names.TypeName.{TypeName}
 use Rattle.type_reader.specs.declared.names.TypeNames.{TypeNames}
 use Rattle.type_reader.specs.declared.reading.Read.{Read}
 use Rattle.type_reader.specs.Annotations.{Annotations}

@@ -1,5 +1,5 @@
 -- The type names of other modules, as the code finds them.
-use Rattle.std.specs.Prelude.{◌≡◌, ℕ, List, Option, Bool, ◌&&◌, option_map, option_copied}
+use Rattle.std.specs.Prelude.{◌≡◌, ℕ, List, Bool, ◌&&◌, option_map, option_copied}
 use Rattle.std.specs.Str.{bytes_eq}
 use Rattle.std.specs.Borrow.{Bor}
 use Rattle.indexmap.specs.IndexMap.{get, IndexMap}

@@ -108,7 +108,11 @@ fn is_key<'a>(alloc: Global, names: Lookups<'_, 'a>, e: &'a TypeExpr) -> Result<
 }
 
 #[cycle(keys)]
-fn are_keys<'a>(alloc: Global, names: Lookups<'_, 'a>, types: &'a [TypeExpr]) -> Result<bool, NoMemory>
+fn are_keys<'a>(
+    alloc: Global,
+    names: Lookups<'_, 'a>,
+    types: &'a [TypeExpr],
+) -> Result<bool, NoMemory>
     ensures { IfOk result (λ b. b ≡ list_all (λ t. t.key) (map (told_of (names_in names.entry)) types.now)) }
 {
     for e in types {
@@ -177,7 +181,11 @@ fn check_key<'a>(alloc: Global, names: Lookups<'_, 'a>, e: &'a TypeExpr) -> Resu
 }
 
 #[cycle(checking)]
-fn check_types<'a>(alloc: Global, names: Lookups<'_, 'a>, types: &'a [TypeExpr]) -> Result<(), Failure>
+fn check_types<'a>(
+    alloc: Global,
+    names: Lookups<'_, 'a>,
+    types: &'a [TypeExpr],
+) -> Result<(), Failure>
     ensures { Answers (first_of (map (λ t. t.fault) (map (told_of (names_in names.entry)) types.now))) result }
 {
     for e in types {
@@ -206,7 +214,11 @@ pub fn check_fields<'a>(
 }
 
 #[cycle(checking)]
-fn check_tuple<'a>(alloc: Global, names: Lookups<'_, 'a>, tuple: &'a TypeTuple) -> Result<(), Failure>
+fn check_tuple<'a>(
+    alloc: Global,
+    names: Lookups<'_, 'a>,
+    tuple: &'a TypeTuple,
+) -> Result<(), Failure>
     ensures { Answers (tuple_fault (names_in names.entry) tuple.now) result }
 {
     check_types(alloc, names, tuple.items.as_slice())?;

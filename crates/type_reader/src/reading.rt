@@ -54,7 +54,11 @@ fn built_in(alloc: Global, built_in: BuiltIn) -> Result<Ty, NoMemory>
 }
 
 /// The type of a name of the module's own.
-fn own_type<'a>(alloc: Global, names: Lookups<'_, 'a>, name: &'a [u8]) -> Result<Option<Ty>, NoMemory>
+fn own_type<'a>(
+    alloc: Global,
+    names: Lookups<'_, 'a>,
+    name: &'a [u8],
+) -> Result<Option<Ty>, NoMemory>
     ensures { IfOk result (λ t. t ≡ (names_in names.entry).ty [] name.now) }
 {
     match names.own(name) {

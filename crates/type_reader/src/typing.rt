@@ -26,7 +26,11 @@ pub struct Module<'m, 'a> {
 }
 
 /// Whether each name that is used has a type.
-pub fn are_typed<'a>(alloc: Global, names: Lookups<'_, 'a>, uses: &Uses<'a>) -> Result<bool, NoMemory>
+pub fn are_typed<'a>(
+    alloc: Global,
+    names: Lookups<'_, 'a>,
+    uses: &Uses<'a>,
+) -> Result<bool, NoMemory>
     ensures { IfOk result (λ b. b ≡ are_typed_in (names_in names.entry) (used_in uses.now)) }
 {
     for used in uses.as_slice() {
@@ -70,7 +74,11 @@ fn first_types(alloc: Global, declared: &[Declaration<'_>]) -> Result<Vec<Option
 }
 
 /// What a declaration stands for, where names have the types that were found.
-fn form_type<'a>(alloc: Global, names: Lookups<'_, 'a>, form: Form<'a>) -> Result<Option<Ty>, NoMemory>
+fn form_type<'a>(
+    alloc: Global,
+    names: Lookups<'_, 'a>,
+    form: Form<'a>,
+) -> Result<Option<Ty>, NoMemory>
     ensures { IfOk result (λ r. r ≡ form_type_in (names_in names.entry) (form_of form.entry)) }
 {
     match form {

@@ -1,4 +1,4 @@
-use Rattle.std.proofs.Common.{ℕ, drop, length, ◌≤◌}
+use Rattle.std.proofs.Common.{drop, length, ◌≤◌}
 use Rattle.type_reader.specs.Indexed.{IsIndexOf}
 use Rattle.type_reader.proofs.other_names.OtherNames.new.Given as goal
 
