@@ -183,70 +183,92 @@ impl Reader {
         self.body(params, Some(rest), results)
     }
 
+    fn optional(&mut self) -> Result<(), Fail> {
+        let e = self.pop_boxed()?;
+        let pos = self.pos();
+        self.put(TypeExpr::Optional(pos, e))
+    }
+
+    fn array(&mut self) -> Result<(), Fail> {
+        let e = self.pop_boxed()?;
+        let pos = self.pos();
+        self.put(TypeExpr::Array(pos, e))
+    }
+
+    fn string(&mut self) -> Result<(), Fail> {
+        let text = Bytes::from_slice(self.alloc, b"a")?;
+        let pos = self.pos();
+        self.put(TypeExpr::Str(pos, text))
+    }
+
+    fn union(&mut self) -> Result<(), Fail> {
+        let members = self.pop_all();
+        let pos = self.pos();
+        self.put(TypeExpr::Union(pos, members))
+    }
+
+    fn record(&mut self) -> Result<(), Fail> {
+        let fields = self.pop_fields();
+        let pos = self.pos();
+        self.put(TypeExpr::Record(pos, fields))
+    }
+
+    /// A function with all types so far as its results.
+    fn results_alone(&mut self) -> Result<(), Fail> {
+        let items = self.pop_all();
+        let results = self.results(items)?;
+        self.body(List::new(self.alloc), None, results)
+    }
+
     /// A form that takes types, or a name.
     fn form(&mut self, word: &str) -> Result<(), Fail> {
-        let pos = self.pos();
         match word {
-            "nil" => self.put(TypeExpr::Nil(pos)),
-            "true" => self.put(TypeExpr::Bool(pos, true)),
-            "false" => self.put(TypeExpr::Bool(pos, false)),
-            "7" => self.put(TypeExpr::Int(pos, 7)),
-            "'a" => self.put(TypeExpr::Str(pos, Bytes::from_slice(self.alloc, b"a")?)),
-            "?" => {
-                let e = self.pop_boxed()?;
-                self.put(TypeExpr::Optional(pos, e))
-            }
-            "[]" => {
-                let e = self.pop_boxed()?;
-                self.put(TypeExpr::Array(pos, e))
-            }
-            "paren" => {
-                let e = self.pop_boxed()?;
-                self.put(TypeExpr::Paren(pos, e))
-            }
+            "nil" => self.put(TypeExpr::Nil(self.pos())),
+            "true" => self.put(TypeExpr::Bool(self.pos(), true)),
+            "false" => self.put(TypeExpr::Bool(self.pos(), false)),
+            "7" => self.put(TypeExpr::Int(self.pos(), 7)),
+            "'a" => self.string(),
+            "?" => self.optional(),
+            "[]" => self.array(),
             "map" => self.map(),
             "->" => self.function(),
-            "|" => {
-                let members = self.pop_all();
-                self.put(TypeExpr::Union(pos, members))
-            }
-            "{}" => {
-                let fields = self.pop_fields();
-                self.put(TypeExpr::Record(pos, fields))
-            }
+            "|" => self.union(),
+            "{}" => self.record(),
             "!" => self.local(),
-            "@" => {
-                let results = self.pop_all();
-                let results = self.results(results)?;
-                self.body(List::new(self.alloc), None, results)
-            }
+            "@" => self.results_alone(),
             "function" => self.full_body(),
             name => self.named(name),
         }
+    }
+
+    fn alias(&mut self, word: &str) -> Result<(), Fail> {
+        let ty = self.pop()?;
+        let name = self.name(word)?;
+        let pos = self.pos();
+        self.put_stat(Stat::Alias(pos, name, ty))
+    }
+
+    fn interface(&mut self, word: &str) -> Result<(), Fail> {
+        let fields = self.pop_fields();
+        let name = self.name(word)?;
+        let pos = self.pos();
+        self.put_stat(Stat::Interface(pos, name, fields))
     }
 
     /// The next word.
     pub fn word(&mut self, word: &str) -> Result<(), Fail> {
         self.column = u32::saturating_add(self.column, 1);
         if let Some(name) = word.strip_prefix('=') {
-            let ty = self.pop()?;
-            let pos = self.pos();
-            let name = self.name(name)?;
-            return self.put_stat(Stat::Alias(pos, name, ty));
+            self.alias(name)
+        } else if let Some(name) = word.strip_prefix(':') {
+            self.interface(name)
+        } else if let Some(name) = word.strip_prefix('.') {
+            self.field(name, false)
+        } else if let Some(name) = word.strip_prefix(',') {
+            self.field(name, true)
+        } else {
+            self.form(word)
         }
-        if let Some(name) = word.strip_prefix(':') {
-            let fields = self.pop_fields();
-            let pos = self.pos();
-            let name = self.name(name)?;
-            return self.put_stat(Stat::Interface(pos, name, fields));
-        }
-        if let Some(name) = word.strip_prefix('.') {
-            return self.field(name, false);
-        }
-        if let Some(name) = word.strip_prefix(',') {
-            return self.field(name, true);
-        }
-        self.form(word)
     }
 
     /// The module of the statements so far.

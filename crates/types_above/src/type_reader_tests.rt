@@ -240,45 +240,58 @@ fn chain(alloc: Global, count: u32, words: &str) -> Result<String, Fail> {
         reader.word(&format!(in alloc; "=A{next}")?)?;
     }
     let read = told(alloc, "c", &reader.module(), &mut known)?;
-    match read.rsplit_once('|') {
-        Some((types, counts)) if count > 20 && types.len() > 60 => {
-            Ok(format!(in alloc; "many |{counts}")?)
-        }
+    shortened(alloc, read)
+}
+
+// A long row of types as a word.
+fn shortened(alloc: Global, read: String) -> Result<String, Fail> {
+    match read.as_str().rsplit_once('|') {
+        Some((types, counts)) if types.len() > 60 => Ok(format!(in alloc; "many |{counts}")?),
         _ => Ok(read),
     }
 }
 
+const DOUBLING: &str = "$ .x $ .y {}";
+
+const CHAINS: [(u32, &str, &str); 5] = [
+    (1, DOUBLING, "integer {.x=integer.y=integer} | 2 0"),
+    (15, DOUBLING, "many | 16 0"),
+    (16, DOUBLING, "Y1@1:98 | 0 0"),
+    (99, "$ []", "many | 100 0"),
+    (100, "$ []", "Y1@1:302 | 0 0"),
+];
+
 #[test]
 fn chains_of_aliases_grow_to_the_limits(rt: HostRuntime) -> Result<(), Fail> {
     let alloc = rt.alloc();
-    let doubling = "$ .x $ .y {}";
-    assert_eq!(rt;
-        chain(alloc, 1, doubling)?.as_str(),
-        "integer {.x=integer.y=integer} | 2 0"
-    );
-    let most = chain(alloc, 15, doubling)?;
-    assert!(rt; most.as_str().ends_with("| 16 0"), "{most}");
-    assert_eq!(rt; chain(alloc, 16, doubling)?.as_str(), "Y1@1:98 | 0 0");
-    assert_eq!(rt; chain(alloc, 99, "$ []")?.as_str(), "many | 100 0");
-    assert_eq!(rt; chain(alloc, 100, "$ []")?.as_str(), "Y1@1:302 | 0 0");
+    for (count, words, wanted) in CHAINS {
+        let got = chain(alloc, count, words)?;
+        assert_eq!(rt; got.as_str(), wanted, "{count} times {words}");
+    }
     Ok(())
 }
 
-// A chain of 10000 aliases of one another, each declared before the one that it names.
-#[test]
-fn a_long_chain_of_aliases_is_read(rt: HostRuntime) -> Result<(), Fail> {
-    let alloc = rt.alloc();
-    assert_eq!(rt; chain(alloc, 10000, "$")?.as_str(), "many | 10001 0");
+// Aliases, each declared before the one that it names, and the last for a type.
+fn chain_backwards(alloc: Global, count: u32) -> Result<String, Fail> {
     let mut known = no_names(alloc);
     let mut reader = Reader::new(alloc);
-    for number in 0..10000_u32 {
+    for number in 0..count {
         let next = u32::saturating_add(number, 1);
         reader.word(&format!(in alloc; "A{next}")?)?;
         reader.word(&format!(in alloc; "=A{number}")?)?;
     }
     reader.word("integer")?;
-    reader.word("=A10000")?;
-    told(alloc, "c", &reader.module(), &mut known)?;
-    assert_eq!(rt; known.names.len(), 10001);
+    reader.word(&format!(in alloc; "=A{count}")?)?;
+    let read = told(alloc, "c", &reader.module(), &mut known)?;
+    shortened(alloc, read)
+}
+
+#[test]
+fn long_chains_of_aliases_are_read(rt: HostRuntime) -> Result<(), Fail> {
+    let alloc = rt.alloc();
+    let forwards = chain(alloc, 10000, "$")?;
+    assert_eq!(rt; forwards.as_str(), "many | 10001 0");
+    let backwards = chain_backwards(alloc, 10000)?;
+    assert_eq!(rt; backwards.as_str(), "many | 10001 0");
     Ok(())
 }
