@@ -82,7 +82,7 @@ same_flags (f ∷ fs) (g ∷ gs) m n e =
     let rest : length fs ≡ length gs = omega arith in
     ap (λ x. x ∷ fs) (same_bool f g (m zero) (n zero)) ∙ ap (λ xs. g ∷ xs) (same_flags fs gs (λ i. m (suc i)) (λ i. n (suc i)) rest)
 
-none_set : {A : Type 0} (xs : List A) (i : ℕ) → slice_index_or (map (λ x. false) xs) i false ≡ false
+pub none_set : {A : Type 0} (xs : List A) (i : ℕ) → slice_index_or (map (λ x. false) xs) i false ≡ false
 none_set [] i = refl
 none_set (x ∷ xs) zero = refl
 none_set (x ∷ xs) (suc i) = none_set xs i
@@ -101,7 +101,7 @@ module _ (ds : List Declaration) (to : List ℕ) where
   abbrev step : Flags → Declaration → Bool
   step fs d = uses_lead (own_names ds) to fs (form_uses d.form)
 
-  next_flag : (n i : ℕ) → slice_index_or (leads_to ds to (suc n)) i false ≡ entry_leads ds to (leads_to ds to n) i
+  pub next_flag : (n i : ℕ) → slice_index_or (leads_to ds to (suc n)) i false ≡ entry_leads ds to (leads_to ds to n) i
   next_flag n i = flag_map (step (leads_to ds to n)) ds i
 
   entry_stay_at : (fs gs : Flags) → FlagsIn fs gs → (o : Option Declaration) → option_map_or (step fs) o false ≡ true → option_map_or (step gs) o false ≡ true

@@ -9,3 +9,4 @@ pub mod Sweeping
 pub mod Flags
 pub mod Readings
 pub mod Indexing
+pub mod Straight

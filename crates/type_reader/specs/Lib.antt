@@ -12,4 +12,5 @@ pub mod Lent
 pub mod Growing
 pub mod Indexed
 pub mod Rising
+pub mod Ranks
 pub mod Outcomes

@@ -2,10 +2,13 @@ ghost use Rattle.std.specs.Prelude.{◌≡◌, ℕ, length, map, false, IfOk, On
 ghost use Rattle.type_reader.specs.Declarations.{uses_lead, own_flag, own_uses, form_uses, leads_to, is_circular as is_circular_in, own_names as own_names_of};
 ghost use Rattle.type_reader.specs.SeenUses.{used_in};
 ghost use Rattle.type_reader.specs.Lent.{declared_in, form_of};
+ghost use Rattle.type_reader.specs.Ranks.{IsFalling};
 ghost use Rattle.type_reader.specs.Rising.{Rises, Turns, Passed};
 
 use crate::declarations::{Declaration, Form};
+use crate::graph::Graph;
 use crate::own_names::OwnNames;
+use crate::ranks::is_straight;
 use crate::typing::Module;
 use crate::uses::Uses;
 use std::alloc::Global;
@@ -152,16 +155,24 @@ fn find_flags<'a>(
     Ok(flags)
 }
 
-/// Whether the alias of a name leads to itself by aliases.
+/// Whether the alias of a name leads to itself by aliases. One that uses lower ranks alone doesn't; for others all names that lead there are found.
 pub fn is_circular<'a>(
     alloc: Global,
     module: Module<'_, 'a>,
     name: &'a [u8],
-    order: &[usize],
+    graph: &Graph,
 ) -> Result<bool, NoMemory>
     requires own { «module».own.now ≡ own_names_of (declared_in «module».declared.now) }
+    requires falling { IsFalling (declared_in «module».declared.now) graph.now.ranks.items }
     ensures { IfOk result (λ b. b ≡ is_circular_in (declared_in «module».entry.declared.now) name.now) }
 {
-    let flags = find_flags(alloc, module, name, order)?;
+    let Some(at) = module.own.find(name) else {
+        return Ok(false);
+    };
+    if is_straight(alloc, module, graph.ranks.as_slice(), at)? {
+        return Ok(false);
+    }
+    let order = graph.leading(alloc, at)?;
+    let flags = find_flags(alloc, module, name, &order)?;
     Ok(has_flag(module.own, &flags, name))
 }

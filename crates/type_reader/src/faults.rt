@@ -4,6 +4,7 @@ ghost use Rattle.type_reader.specs.Declarations.{own_names as own_names_of};
 ghost use Rattle.type_reader.specs.Faults.{first_of};
 ghost use Rattle.type_reader.specs.Lent.{declared_in, declaration_of};
 ghost use Rattle.type_reader.specs.Lookups.{names_in};
+ghost use Rattle.type_reader.specs.Ranks.{IsFalling};
 ghost use Rattle.type_reader.specs.Reading.{too_large, circle_fault, type_faults, results_faults, record_faults, declared_fault};
 ghost use Rattle.type_reader.specs.SeenUses.{used_in};
 ghost use Rattle.type_reader.specs.Types.{type_of as type_of_written, body_of as body_of_written};
@@ -12,6 +13,7 @@ use crate::building::{body_of, fields_of, record_type, type_of};
 use crate::checking::{check_fields, check_results, check_type, place_of, refused};
 use crate::circles::is_circular;
 use crate::declarations::{Declaration, Form};
+use crate::graph::Graph;
 use crate::lookups::{Found, Lookups};
 use crate::refusals::{Failure, RefusalCode};
 use crate::typing::{Module, are_typed};
@@ -107,16 +109,17 @@ fn check_circle<'a>(
     module: Module<'_, 'a>,
     names: Lookups<'_, 'a>,
     declaration: &Declaration<'a>,
-    order: &[usize],
+    graph: &Graph,
 ) -> Result<(), Failure>
-    requires { «module».own.now ≡ own_names_of (declared_in «module».declared.now) }
+    requires own { «module».own.now ≡ own_names_of (declared_in «module».declared.now) }
+    requires falling { IsFalling (declared_in «module».declared.now) graph.now.ranks.items }
     ensures { Answers (circle_fault (declared_in «module».entry.declared.now) (names_in names.entry) declaration.now.pos declaration.now.name.now.text) result }
 {
     let name = declaration.name.text.as_slice();
     if !is_untyped(names, name) {
         return Ok(());
     }
-    if is_circular(alloc, module, name, order)? {
+    if is_circular(alloc, module, name, graph)? {
         return Err(refused(RefusalCode::Y5, declaration.pos));
     }
     Ok(())
@@ -128,15 +131,16 @@ fn check_declaration<'a>(
     module: Module<'_, 'a>,
     names: Lookups<'_, 'a>,
     declaration: &Declaration<'a>,
-    order: &[usize],
+    graph: &Graph,
 ) -> Result<(), Failure>
-    requires { «module».own.now ≡ own_names_of (declared_in «module».declared.now) }
+    requires own { «module».own.now ≡ own_names_of (declared_in «module».declared.now) }
+    requires falling { IsFalling (declared_in «module».declared.now) graph.now.ranks.items }
     ensures { Answers (declared_fault (declared_in «module».entry.declared.now) (names_in names.entry) (declaration_of declaration.now)) result }
 {
     match declaration.form {
         Form::Interface(_, fields) => check_interface(alloc, names, declaration.pos, fields),
         Form::Alias(e) => {
-            check_circle(alloc, module, names, declaration, order)?;
+            check_circle(alloc, module, names, declaration, graph)?;
             read_type(alloc, names, declaration.pos, e)?;
             Ok(())
         }
@@ -148,13 +152,14 @@ pub fn check_declarations<'a>(
     alloc: Global,
     module: Module<'_, 'a>,
     names: Lookups<'_, 'a>,
-    order: &[usize],
+    graph: &Graph,
 ) -> Result<(), Failure>
-    requires { «module».own.now ≡ own_names_of (declared_in «module».declared.now) }
+    requires own { «module».own.now ≡ own_names_of (declared_in «module».declared.now) }
+    requires falling { IsFalling (declared_in «module».declared.now) graph.now.ranks.items }
     ensures { Answers (first_of (map (declared_fault (declared_in «module».entry.declared.now) (names_in names.entry)) (declared_in «module».entry.declared.now))) result }
 {
     for declaration in module.declared {
-        check_declaration(alloc, module, names, declaration, order)?;
+        check_declaration(alloc, module, names, declaration, graph)?;
     }
     Ok(())
 }

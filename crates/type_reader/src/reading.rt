@@ -5,6 +5,7 @@ ghost use Rattle.type_reader.specs.Faults.{first_of};
 ghost use Rattle.type_reader.specs.Lent.{declared_in, declaration_of, form_of};
 ghost use Rattle.type_reader.specs.Outcomes.{IsRead, IsReadModule, IsReadOf};
 ghost use Rattle.type_reader.specs.Lookups.{built_in_type, names_in};
+ghost use Rattle.type_reader.specs.Ranks.{IsFalling};
 ghost use Rattle.type_reader.specs.Reading.{type_faults, place_of as place_in_tree, used_fault, annotation_type, entry_of, bodies_of, bodies_of_form, fault_in, types_in, IsJoined};
 ghost use Rattle.type_reader.specs.Seen.{annotation_of};
 ghost use Rattle.type_reader.specs.Types.{every, type_of as type_of_written};
@@ -14,11 +15,12 @@ use crate::building::fields_of;
 use crate::checking::place_of;
 use crate::declarations::{Declaration, Form, declare, own_names};
 use crate::faults::{check_declarations, read_results, read_type};
+use crate::graph::{Graph, graph_of};
 use crate::joining::{append, join};
 use crate::lookups::{BuiltIn, Found, Lookups};
 use crate::names::{TypeName, TypeNames};
-use crate::order::order;
 use crate::other_names::OtherNames;
+use crate::ranks::looked_at;
 use crate::refusals::Failure;
 use crate::typing::{Module, find_types};
 use lua_tree::{Scoped, TypeExpr};
@@ -199,13 +201,14 @@ fn read_named<'a>(
     of: &[u8],
     module: Module<'_, 'a>,
     names: Lookups<'_, 'a>,
-    order: &[usize],
+    graph: &Graph,
     annotations: &[Annotation<'a>],
 ) -> Result<Read, Failure>
-    requires { «module».own.now ≡ own_names_of (declared_in «module».declared.now) }
+    requires own { «module».own.now ≡ own_names_of (declared_in «module».declared.now) }
+    requires falling { IsFalling (declared_in «module».declared.now) graph.now.ranks.items }
     ensures { IsReadOf of.now (names_in names.entry) (declared_in «module».entry.declared.now) (map annotation_of annotations.now) result }
 {
-    check_declarations(alloc, module, names, order)?;
+    check_declarations(alloc, module, names, graph)?;
     let types = read_annotations(alloc, names, annotations)?;
     let added = added_names(alloc, of, names, module.declared)?;
     let bodies = added_bodies(alloc, names, module.declared)?;
@@ -226,14 +229,15 @@ fn read_declared<'a>(
     requires { «module».own.now ≡ own_names_of (declared_in «module».declared.now) }
     ensures { IsRead of.now «module».entry.known.now (declared_in «module».entry.declared.now) (map annotation_of annotations.now) result }
 {
-    let order = order(alloc, module.own, module.declared)?;
-    let types = find_types(alloc, module, &order)?;
+    let graph = graph_of(alloc, module.own, module.declared)?;
+    let types = find_types(alloc, module, &graph.order)?;
+    let graph = looked_at(alloc, module, graph)?;
     let names = Lookups {
         known: module.known,
         own: module.own,
         types: types.as_slice(),
     };
-    read_named(alloc, of, module, names, &order, annotations)
+    read_named(alloc, of, module, names, &graph, annotations)
 }
 
 /// What is read of a module.
