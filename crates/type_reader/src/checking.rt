@@ -35,6 +35,7 @@ fn is_key_type(ty: &Ty) -> bool
     }
 }
 
+/// The refusal with this code at this place.
 pub fn refused(code: RefusalCode, pos: Pos) -> Failure
     ensures { result ≡ failure.Refused (at code pos) }
 {
