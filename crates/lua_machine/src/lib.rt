@@ -18,8 +18,6 @@ mod running;
 mod state;
 mod store;
 mod sums;
-#[cfg(test)]
-mod tests;
 mod tracing;
 
 pub use events::Event;
