@@ -2,7 +2,6 @@
 #![tactic(auto)]
 
 mod act;
-mod activation;
 mod calls;
 mod closures;
 mod events;
