@@ -34,8 +34,6 @@ pub fn act(
         Instr::JumpIfNot(to) => jumps::jump_if_not(place, *to, state),
         Instr::Turn => jumps::turn(place, state),
         Instr::Pack(count) => lists::pack(place, *count, state),
-        Instr::Call => lists::call(place, state),
-        Instr::Return => lists::leave(place, state),
         _ => act_often(place, instr, functions, state),
     }
 }
@@ -173,7 +171,7 @@ fn act_seldom(
         | Instr::Append(_)
         | Instr::Get
         | Instr::Put => Ok(Flow::Stuck),
-        // taken before
+        // taken before, and those that call or leave a function
         _ => Err(NoMemory),
     }
 }

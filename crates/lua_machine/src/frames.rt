@@ -1,4 +1,4 @@
-ghost use Rattle.std.specs.Prelude.{◌≡◌, [], ◌∷◌, slice_get, slice_set, MatchOption, IfOk, OnOk};
+ghost use Rattle.std.specs.Prelude.{◌≡◌, [], ◌∷◌, ◌<◌, slice_get, slice_set, vec_len, vec_capacity, MatchOption, IfOk, OnOk};
 ghost use Rattle.std.specs.Option.{option_copied};
 ghost use Rattle.lua_code.specs.Configurations.{calls_at_work};
 ghost use Rattle.lua_machine.specs.Frames.{at_next, at_place, with_item, with_slot, with_more_slots, fresh, entered, Leaves};
@@ -33,6 +33,16 @@ pub struct Frames {
     waiting: Vec<Head>,
     slots: Vec<Slot>,
     stack: Vec<Item>,
+}
+
+/// Makes room for one item more.
+#[inline(never)]
+fn grow<T>(items: &mut Vec<T>) -> Result<(), NoMemory>
+    ensures items { items.new.items ≡ items.old.items }
+    ensures room { OnOk result (vec_len items.new < vec_capacity items.new) }
+{
+    items.reserve(1)?;
+    Ok(())
 }
 
 /// Gives the slot at an index from 0 what it is to hold, if there is such a slot.
@@ -115,7 +125,10 @@ impl Frames {
     pub fn push(&mut self, item: Item) -> Result<(), NoMemory>
         ensures { OnOk result (self.new ≡ with_item item self.old) }
     {
-        self.stack.push(item)?;
+        if self.stack.len() >= self.stack.capacity() {
+            grow(&mut self.stack)?;
+        }
+        self.stack.push_reserved(item);
         Ok(())
     }
 
@@ -152,7 +165,10 @@ impl Frames {
     pub fn push_slot(&mut self, slot: Slot) -> Result<(), NoMemory>
         ensures { OnOk result (self.new ≡ with_more_slots slot self.old) }
     {
-        self.slots.push(slot)?;
+        if self.slots.len() >= self.slots.capacity() {
+            grow(&mut self.slots)?;
+        }
+        self.slots.push_reserved(slot);
         Ok(())
     }
 
