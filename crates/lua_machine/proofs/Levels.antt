@@ -1,29 +1,14 @@
 -- The functions at work over the slots of all and the stacks of all.
-use Rattle.std.proofs.Common.{◌≡◌, refl, sym, ap, ◌∙◌, ℕ, suc, ◌+◌, ◌-◌, ◌≤◌, ◌<◌, Bool, true, ◌&&◌, nat_le, IsTrue, List, [], ◌∷◌, ◌++◌, length, map, take, drop, reverse, set, slice_set, arith}
-use Rattle.std.proofs.lemmas.List.{reverse-append, drop-append-le, take-append-le, length-reverse}
-use Rattle.lua_values.specs.declared.value.Value.{Value}
+use Rattle.std.proofs.Common.{◌≡◌, refl, ℕ, ◌+◌, ◌≤◌, Bool, true, IsTrue, List, [], ◌∷◌, length, take, arith}
 use Rattle.lua_code.specs.declared.frames.Slot.{Slot}
 use Rattle.lua_code.specs.declared.frames.Item.{Item}
-use Rattle.lua_code.specs.Configurations.{Frame, Level, caller, calls_at_work}
+use Rattle.lua_code.specs.Configurations.{calls_at_work}
 use Rattle.lua_machine.specs.declared.frames.Head.{Head}
-use Rattle.lua_machine.specs.Frames.{Activity, with_item, with_more_slots, fresh, entered}
-use Rattle.lua_machine.specs.Windows.{frame_in, levels_in, activity_in, are_within}
+use Rattle.lua_machine.specs.Windows.{levels_in, are_within}
 
 pub count_levels : (hs : List Head) (ss : List Slot) (is : List Item) → calls_at_work (levels_in hs ss is) ≡ length hs
 count_levels [] ss is = refl
 count_levels (h ∷ hs) ss is = let e = count_levels hs (take h.slots ss) (take h.stack is) in omega (arith, e)
-
--- an item more on the stack
-pub item_pushed : (h : Head) (hs : List Head) (ss : List Slot) (is : List Item) (i : Item) → h.stack ≤ length is
-    → activity_in h hs ss (is ++ i ∷ []) ≡ with_item i (activity_in h hs ss is)
-item_pushed h hs ss is i le =
-    let top : reverse (drop h.stack (is ++ i ∷ [])) ≡ i ∷ reverse (drop h.stack is) =
-        ap (λ (l : List Item). reverse l) (drop-append-le h.stack is (i ∷ []) le) ∙ reverse-append (drop h.stack is) (i ∷ []) in
-    rw (top, take-append-le h.stack is (i ∷ []) le) refl
-
-pub slot_pushed : (h : Head) (hs : List Head) (ss : List Slot) (is : List Item) (s : Slot) → h.slots ≤ length ss
-    → activity_in h hs (ss ++ s ∷ []) is ≡ with_more_slots s (activity_in h hs ss is)
-slot_pushed h hs ss is s le = rw (drop-append-le h.slots ss (s ∷ []) le, take-append-le h.slots ss (s ∷ []) le) refl
 
 -- within longer lists
 pub within_longer : (hs : List Head) (a b m n : ℕ) → IsTrue (are_within hs a b) → a ≤ m → b ≤ n → IsTrue (are_within hs m n)

@@ -169,8 +169,8 @@ module _ (code : List Proto) where
   paces_next old i j p found same q new h =
       let there = act code j p old.frames.frame old.frames.levels old.store old.closures in
       let steps_to : step code (running old.frames.frame old.frames.levels old.store old.closures) ≡ there =
-          ap (λ o. obey code o old.frames.frame old.frames.levels old.store old.closures) (sym found)
-          ∙ ap (λ x. act code x p old.frames.frame old.frames.levels old.store old.closures) same in record {
+      ap (λ o. obey code o old.frames.frame old.frames.levels old.store old.closures) (sym found)
+      ∙ ap (λ x. act code x p old.frames.frame old.frames.levels old.store old.closures) same in record {
         steps = suc h.steps;
         walk = subst (λ s. Walk code (suc h.steps) (at_work old) (next_of_pace q new) s) (append-nil (begun_in code (running old.frames.frame old.frames.levels old.store old.closures)))
             (walk_step (running old.frames.frame old.frames.levels old.store old.closures) h.steps there (next_of_pace q new) [] steps_to h.walk);

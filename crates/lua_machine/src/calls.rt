@@ -115,7 +115,14 @@ fn enter_turn(
     let Some(proto) = function_at(functions, function) else {
         return Ok(Called::Stuck);
     };
-    enter(state.alloc, function, proto, cells, values.as_slice(), &mut state.frames)?;
+    enter(
+        state.alloc,
+        function,
+        proto,
+        cells,
+        values.as_slice(),
+        &mut state.frames,
+    )?;
     Ok(Called::Entered)
 }
 
