@@ -14,7 +14,7 @@ use Rattle.lua_code.specs.declared.frames.Slot.TheVariants as slot
 use Rattle.lua_code.specs.Configurations.{Frame, Level, CodeClosure}
 use Rattle.lua_code.specs.Steps.{called, overflow, further, frame_of}
 use Rattle.lua_machine.specs.Calls.{printed_on}
-use Rattle.lua_machine.specs.Frames.{fresh}
+use Rattle.lua_machine.specs.Frames.{Activity, fresh, entered, with_values, with_more_slots, slot_values}
 use Rattle.lua_machine.proofs.Operands.{adjust_more, all_nil, map_append}
 
 -- ---- what `print` writes
@@ -32,28 +32,34 @@ printed_from v (u ∷ us) e =
 
 -- ---- the slots of a function that begins
 
-pub fill_step : (count at : ℕ) (vs : List Value) (v : Value) (a b g : Frame) → at < count → v ≡ slice_index_or vs at value.Nil
-    → b ≡ record a { slots = a.slots ++ slot.Held v ∷ [] }
-    → record a { slots = a.slots ++ map (λ v. slot.Held v) (adjust (count - at) (drop at vs)) } ≡ g
-    → record b { slots = b.slots ++ map (λ v. slot.Held v) (adjust (count - (at + 1)) (drop (at + 1) vs)) } ≡ g
+pub fill_step : (count at : ℕ) (vs : List Value) (v : Value) (a b g : Activity) → at < count → v ≡ slice_index_or vs at value.Nil
+    → b ≡ with_more_slots (slot.Held v) a
+    → with_values (adjust (count - at) (drop at vs)) a ≡ g
+    → with_values (adjust (count - (at + 1)) (drop (at + 1) vs)) b ≡ g
 fill_step count at vs v a b g less is_value is_more h =
-    let more = map (λ v. slot.Held v) (adjust (count - (at + 1)) (drop (at + 1) vs)) in
-    ap (λ (x : Frame). record x { slots = x.slots ++ more }) is_more
-    ∙ (ap (λ ss. record a { slots = ss }) (append_assoc a.slots (slot.Held v ∷ []) more)
-    ∙ (ap (λ us. record a { slots = a.slots ++ map (λ v. slot.Held v) us }) (sym (adjust_more count at vs v less is_value)) ∙ h))
+    let more = adjust (count - (at + 1)) (drop (at + 1) vs) in
+    ap (λ (x : Activity). with_values more x) is_more
+    ∙ (ap (λ ss. record a { frame = record a.frame { slots = ss } }) (append_assoc a.frame.slots (slot.Held v ∷ []) (map (λ v. slot.Held v) more))
+    ∙ (ap (λ us. with_values us a) (sym (adjust_more count at vs v less is_value)) ∙ h))
 
-pub frame_filled : (number : ℕ) (proto : Proto) (cells : List ℕ) (vs rest : List Value) (a b d : Frame) (k : ℕ)
-    → rest ≡ further proto.vararg proto.params vs → a ≡ fresh number cells rest
-    → b ≡ record a { slots = a.slots ++ map (λ v. slot.Held v) (adjust proto.params vs) } → k ≡ proto.slots - proto.params
-    → d ≡ record b { slots = b.slots ++ map (λ v. slot.Held v) (adjust k []) } → d ≡ frame_of number proto cells vs
-frame_filled number proto cells vs rest a b d k is_rest is_a is_b is_k is_d =
+-- the arguments, and nil in the other slots
+pub slots_filled : (proto : Proto) (vs : List Value) (a b d : Activity) (k : ℕ)
+    → b ≡ with_values (adjust proto.params vs) a → k ≡ proto.slots - proto.params → d ≡ with_values (adjust k []) b
+    → d ≡ with_values (slot_values proto vs) a
+slots_filled proto vs a b d k is_b is_k is_d =
     let args = adjust proto.params vs in
-    let all : map (λ v. slot.Held v) args ++ map (λ v. slot.Held v) (adjust k []) ≡ map (λ v. slot.Held v) (args ++ replicate (proto.slots - proto.params) value.Nil) =
-    sym (map_append (λ v. slot.Held v) args (adjust k [])) ∙ ap (λ us. map (λ v. slot.Held v) (args ++ us)) (all_nil k ∙ ap (λ n. replicate n value.Nil) is_k) in
-    is_d ∙ (ap (λ (x : Frame). record x { slots = x.slots ++ map (λ v. slot.Held v) (adjust k []) }) is_b
-    ∙ (ap (λ (x : Frame). record x { slots = (x.slots ++ map (λ v. slot.Held v) args) ++ map (λ v. slot.Held v) (adjust k []) }) is_a
-    ∙ (ap (λ r. record (fresh number cells r) { slots = map (λ v. slot.Held v) args ++ map (λ v. slot.Held v) (adjust k []) }) is_rest
-    ∙ ap (λ ss. record (fresh number cells (further proto.vararg proto.params vs)) { slots = ss }) all)))
+    let all : (a.frame.slots ++ map (λ v. slot.Held v) args) ++ map (λ v. slot.Held v) (adjust k []) ≡ a.frame.slots ++ map (λ v. slot.Held v) (slot_values proto vs) =
+    append_assoc a.frame.slots (map (λ v. slot.Held v) args) (map (λ v. slot.Held v) (adjust k []))
+    ∙ ap (λ ss. a.frame.slots ++ ss) (sym (map_append (λ v. slot.Held v) args (adjust k [])) ∙ ap (λ us. map (λ v. slot.Held v) (args ++ us)) (all_nil k ∙ ap (λ n. replicate n value.Nil) is_k)) in
+    is_d ∙ (ap (λ (x : Activity). with_values (adjust k []) x) is_b ∙ ap (λ ss. record a { frame = record a.frame { slots = ss } }) all)
+
+-- a function that has its slots has begun
+pub has_begun : (number : ℕ) (proto : Proto) (cells : List ℕ) (vs rest : List Value) (a b d : Activity)
+    → rest ≡ further proto.vararg proto.params vs → b ≡ entered (fresh number cells rest) a → d ≡ with_values (slot_values proto vs) b
+    → d ≡ entered (frame_of number proto cells vs) a
+has_begun number proto cells vs rest a b d is_rest is_b is_d =
+    is_d ∙ (ap (λ (x : Activity). with_values (slot_values proto vs) x) is_b
+    ∙ ap (λ r. entered (record (fresh number cells r) { slots = map (λ v. slot.Held v) (slot_values proto vs) }) a) is_rest)
 
 -- ---- no call more
 

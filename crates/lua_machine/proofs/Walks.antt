@@ -7,9 +7,9 @@ use Rattle.lua_values.specs.declared.value.Value.{Value}
 use Rattle.lua_code.specs.declared.code.Proto.{Proto}
 use Rattle.lua_code.specs.declared.code.Instr.{Instr}
 use Rattle.lua_code.specs.declared.frames.Item.TheVariants as item
-use Rattle.lua_code.specs.Configurations.{Level, caller, CodeClosure, Config, running, calling, giving, raising, Next, go, stop, stuck}
+use Rattle.lua_code.specs.Configurations.{Frame, Level, caller, CodeClosure, Config, running, calling, giving, raising, Next, go, stop, stuck}
 use Rattle.lua_code.specs.Instructions.{act}
-use Rattle.lua_code.specs.Steps.{step, trace, traced_on, begun_in, instruction, obey}
+use Rattle.lua_code.specs.Steps.{step, trace, traced_on, begun, begun_in, instruction, obey}
 use Rattle.lua_machine.specs.declared.state.State.{State}
 use Rattle.lua_machine.specs.declared.state.Flow.{Flow}
 use Rattle.lua_machine.specs.declared.state.Flow.TheVariants as flow
@@ -20,7 +20,8 @@ use Rattle.lua_machine.specs.declared.pacing.Pace.TheVariants as pace
 use Rattle.lua_machine.specs.Frames.{Activity, with_item}
 use Rattle.lua_machine.specs.Flows.{next_of, Obeys}
 use Rattle.lua_machine.specs.Calls.{levels_with_caller, next_of_call}
-use Rattle.lua_machine.specs.Runs.{after, begun_from, Walk, output_in, at_work, next_of_pace, IsOutput, IsTold, Paces}
+use Rattle.lua_machine.specs.declared.tracing.TraceStep.{TraceStep}
+use Rattle.lua_machine.specs.Runs.{after, begun_from, Walk, output_in, at_work, next_of_pace, noted, noted_all, IsOutput, IsTold, Paces}
 
 module _ (code : List Proto) where
   -- ---- walks
@@ -146,20 +147,40 @@ module _ (code : List Proto) where
     steps_to : step code (running old.frames.frame old.frames.levels old.store old.closures) ≡ next_of came mid
     steps_to = ap (λ o. obey code o old.frames.frame old.frames.levels old.store old.closures) (sym found) ∙ obeys
 
-    pub paces_on : (d : Config) (q : Pace) (new : State) → next_of came mid ≡ go d → Paces code (go d) q new []
-        → Paces code (at_work old) q new (begun_in code (running old.frames.frame old.frames.levels old.store old.closures))
-    paces_on d q new is h = record {
-      steps = suc h.steps;
-      walk = subst (λ s. Walk code (suc h.steps) (at_work old) (next_of_pace q new) s) (append-nil (begun_in code (running old.frames.frame old.frames.levels old.store old.closures)))
-          (walk_step (running old.frames.frame old.frames.levels old.store old.closures) h.steps (go d) (next_of_pace q new) [] (steps_to ∙ is) h.walk);
-      quiet = λ o. let k = h.quiet o in let e = k.1 in (suc k.0, omega (arith, e), ap (λ n. output_in (after code k.0 n)) (steps_to ∙ is) ∙ k.2);
-      some = h.some;
-    }
-
-    pub paces_raise : (v : Value) → came ≡ flow.Raise v → Paces code (at_work old) (pace.Raised v) mid (begun_in code (running old.frames.frame old.frames.levels old.store old.closures))
-    paces_raise v is = paces_on (raising v mid.frames.levels mid.store mid.closures) (pace.Raised v) mid (ap (λ x. next_of x mid) is) (record {
-      steps = unwinding mid.frames.levels;
-      walk = unwinds v mid.frames.levels mid.store mid.closures;
+    raises : came ≡ flow.Raise → Paces code (at_work old) (pace.Raised mid.raised) mid (begun_in code (running old.frames.frame old.frames.levels old.store old.closures))
+    raises is = record {
+      steps = suc (unwinding mid.frames.levels);
+      walk = subst (λ s. Walk code (suc (unwinding mid.frames.levels)) (at_work old) (stop (failed mid.raised) mid.store) s) (append-nil (begun_in code (running old.frames.frame old.frames.levels old.store old.closures)))
+          (walk_step (running old.frames.frame old.frames.levels old.store old.closures) (unwinding mid.frames.levels) (go (raising mid.raised mid.frames.levels mid.store mid.closures)) (stop (failed mid.raised) mid.store) []
+          (steps_to ∙ ap (λ x. next_of x mid) is) (unwinds mid.raised mid.frames.levels mid.store mid.closures));
       quiet = λ h. absurd h;
       some = tt {0};
-    })
+    }
+
+    pub paces_raise : (v : Value) → came ≡ flow.Raise → v ≡ mid.raised
+        → Paces code (at_work old) (pace.Raised v) mid (begun_in code (running old.frames.frame old.frames.levels old.store old.closures))
+    paces_raise v is same =
+        subst (λ x. Paces code (at_work old) (pace.Raised x) mid (begun_in code (running old.frames.frame old.frames.levels old.store old.closures))) (sym same) (raises is)
+
+  -- an instruction that leads to what something else comes to
+  pub paces_next : (old : State) (i j : Instr) (p : Pos) → Some (i, p) ≡ instruction code old.frames.frame → i ≡ j → (q : Pace) (new : State)
+      → Paces code (act code j p old.frames.frame old.frames.levels old.store old.closures) q new []
+      → Paces code (at_work old) q new (begun_in code (running old.frames.frame old.frames.levels old.store old.closures))
+  paces_next old i j p found same q new h =
+      let there = act code j p old.frames.frame old.frames.levels old.store old.closures in
+      let steps_to : step code (running old.frames.frame old.frames.levels old.store old.closures) ≡ there =
+      ap (λ o. obey code o old.frames.frame old.frames.levels old.store old.closures) (sym found)
+      ∙ ap (λ x. act code x p old.frames.frame old.frames.levels old.store old.closures) same in record {
+        steps = suc h.steps;
+        walk = subst (λ s. Walk code (suc h.steps) (at_work old) (next_of_pace q new) s) (append-nil (begun_in code (running old.frames.frame old.frames.levels old.store old.closures)))
+            (walk_step (running old.frames.frame old.frames.levels old.store old.closures) h.steps there (next_of_pace q new) [] steps_to h.walk);
+        quiet = λ o. let k = h.quiet o in let e = k.1 in (suc k.0, omega (arith, e), ap (λ n. output_in (after code k.0 n)) steps_to ∙ k.2);
+        some = h.some;
+      }
+
+  -- the instruction found is the one that is noted
+  pub noted_one : (limit : ℕ) (before now : List TraceStep) (f : Frame) (i : Instr) (p : Pos) → Some (i, p) ≡ instruction code f → (n m : ℕ) → n ≡ f.function → m ≡ f.at
+      → now ≡ noted limit before (record { function = n; at = m }) → now ≡ noted_all limit before (begun (instruction code f) f)
+  noted_one limit before now f i p found n m e g h =
+      h ∙ (ap (λ k. noted limit before (record { function = k; at = m })) e ∙ (ap (λ k. noted limit before (record { function = f.function; at = k })) g
+      ∙ ap (λ o. noted_all limit before (begun o f)) found))

@@ -1,7 +1,11 @@
 -- The functions at work: the one that runs, and those that wait for the results of their calls.
-use Rattle.std.specs.Prelude.{◌≡◌, ℕ, ◌+◌, Bool, true, false, List, [], ◌∷◌, ◌++◌, map, reverse, slice_set, Option, Some, None}
+use Rattle.std.specs.Prelude.{◌≡◌, ℕ, ◌+◌, ◌-◌, Bool, true, false, List, [], ◌∷◌, ◌++◌, map, replicate, slice_set, Option, Some, None}
+use Rattle.lua_meaning.specs.Trees.{adjust}
 use Rattle.lua_values.specs.declared.value.Value.{Value}
+use Rattle.lua_values.specs.declared.value.Value.TheVariants as value
+use Rattle.lua_code.specs.declared.code.Proto.{Proto}
 use Rattle.lua_code.specs.declared.frames.Slot.{Slot}
+use Rattle.lua_code.specs.declared.frames.Slot.TheVariants as slot
 use Rattle.lua_code.specs.declared.frames.Item.{Item}
 use Rattle.lua_code.specs.Configurations.{Frame, Level, caller}
 
@@ -9,10 +13,6 @@ pub record Activity : Type 0 where
   pub frame : Frame
   -- the innermost first
   pub levels : List Level
-
--- the levels of functions that wait, of which the innermost is the last
-abbrev pub levels_of : List Frame → List Level
-levels_of fs = map (λ f. caller f) (reverse fs)
 
 -- a function that begins, without its slots
 abbrev pub fresh : ℕ → List ℕ → List Value → Frame
@@ -32,6 +32,14 @@ with_slot i s a = record a { frame = record a.frame { slots = slice_set a.frame.
 
 abbrev pub with_more_slots : Slot → Activity → Activity
 with_more_slots s a = record a { frame = record a.frame { slots = a.frame.slots ++ s ∷ [] } }
+
+-- further slots with these values
+abbrev pub with_values : List Value → Activity → Activity
+with_values vs a = record a { frame = record a.frame { slots = a.frame.slots ++ map (λ v. slot.Held v) vs } }
+
+-- what a function has in its slots when it begins: its arguments, and nil in the others
+abbrev pub slot_values : Proto → List Value → List Value
+slot_values proto vs = adjust proto.params vs ++ replicate (proto.slots - proto.params) value.Nil
 
 -- the function that runs waits for one that begins
 abbrev pub entered : Frame → Activity → Activity

@@ -8,4 +8,5 @@ pub mod Machines
 pub mod Outside
 pub mod Pacing
 pub mod Runs
+pub mod Windows
 pub mod World

@@ -21,6 +21,8 @@ pub fn act(
     ensures { IfOk result (λ flow. Obeys (meant functions.now instr.now) place state.old state.new flow) }
 {
     match instr {
+        Instr::GetSlot(at) => rows::get_slot(place, *at, state),
+        Instr::SetSlot(at) => rows::set_slot(place, *at, state),
         Instr::GetCell(at) => rows::get_cell(place, *at, state),
         Instr::SetCell(at) => rows::set_cell(place, *at, state),
         Instr::GetUp(at) => rows::get_up(place, *at, state),
@@ -29,13 +31,18 @@ pub fn act(
             Ok(Flow::On)
         }
         Instr::Add => sums::arithmetic(place, BinaryOperator::Add, state),
+        Instr::Sub => sums::arithmetic(place, BinaryOperator::Subtract, state),
         Instr::Lt => sums::less(place, state),
         Instr::JumpIf(to) => jumps::jump_if(place, *to, state),
         Instr::JumpIfNot(to) => jumps::jump_if_not(place, *to, state),
         Instr::Turn => jumps::turn(place, state),
+        Instr::Jump(to) => {
+            state.frames.jump(*to);
+            Ok(Flow::On)
+        }
+        Instr::ForStep(at, to) => jumps::for_step(place, *at, *to, state),
         Instr::Pack(count) => lists::pack(place, *count, state),
-        Instr::Call => lists::call(place, state),
-        Instr::Return => lists::leave(place, state),
+        Instr::First => lists::first(place, state),
         _ => act_often(place, instr, functions, state),
     }
 }
@@ -51,20 +58,11 @@ fn act_often(
     ensures { IfOk result (λ flow. Obeys (meant functions.now instr.now) place state.old state.new flow) }
 {
     match instr {
-        Instr::First => lists::first(place, state),
         Instr::SetUp(at) => rows::set_up(place, *at, state),
         Instr::NewCell(at) => rows::new_cell(place, *at, state),
-        Instr::GetSlot(at) => rows::get_slot(place, *at, state),
-        Instr::SetSlot(at) => rows::set_slot(place, *at, state),
-        Instr::Sub => sums::arithmetic(place, BinaryOperator::Subtract, state),
         Instr::Mul => sums::arithmetic(place, BinaryOperator::Multiply, state),
         Instr::Le => sums::less_equal(place, state),
         Instr::Eq => sums::equal(place, state),
-        Instr::Jump(to) => {
-            state.frames.jump(*to);
-            Ok(Flow::On)
-        }
-        Instr::ForStep(at, to) => jumps::for_step(place, *at, *to, state),
         Instr::Mark(kind, line, column) => jumps::mark(place, *kind, *line, *column, state),
         _ => act_on_words(place, instr, functions, state),
     }
@@ -173,7 +171,7 @@ fn act_seldom(
         | Instr::Append(_)
         | Instr::Get
         | Instr::Put => Ok(Flow::Stuck),
-        // taken before
+        // taken before, and those that call or leave a function
         _ => Err(NoMemory),
     }
 }

@@ -2,13 +2,13 @@ ghost use Rattle.std.specs.Prelude.{◌≡◌, ◌++◌, ◌+◌, ◌-◌, ◌<�
 ghost use Rattle.lua_values.specs.Shown.{shown_text};
 ghost use Rattle.lua_meaning.specs.Trees.{adjust};
 ghost use Rattle.lua_meaning.specs.Calls.{limit, printed as meant_printed};
-ghost use Rattle.lua_code.specs.declared.frames.Slot.TheVariants as slot;
 ghost use Rattle.lua_code.specs.Configurations.{calls_at_work, calling};
 ghost use Rattle.lua_code.specs.Steps.{further as meant_further, frame_of, enter_turn as meant_enter_turn, library as meant_library, overflow as meant_overflow, step};
 ghost use Rattle.lua_machine.specs.Calls.{levels_with_caller, next_of_call, not_called, printed_on};
+ghost use Rattle.lua_machine.specs.Frames.{entered, slot_values, with_values};
 
-use crate::activation::Activation;
 use crate::closures::Cells;
+use crate::frames::Frames;
 use crate::lists::{copied, function_at, or_nil};
 use crate::operators::worded;
 use crate::state::State;
@@ -36,12 +36,12 @@ pub enum Called {
     Stuck,
 }
 
-/// Gives a function that begins so many slots more: a list that is cut, or filled with nil.
-fn fill(count: u64, values: &[Value], activation: &mut Activation) -> Result<(), NoMemory>
-    ensures { OnOk result (activation.new ≡ record activation.old { slots = activation.old.slots ++ map (λ v. slot.Held v) (adjust count values.now) }) }
+/// Gives the function that runs so many slots more: a list that is cut, or filled with nil.
+fn fill(count: u64, values: &[Value], frames: &mut Frames) -> Result<(), NoMemory>
+    ensures { OnOk result (frames.new ≡ with_values (adjust count values.now) frames.old) }
 {
     for at in 0..count {
-        activation.push_slot(Slot::Held(or_nil(values, at as usize)?))?;
+        frames.push_slot(Slot::Held(or_nil(values, at as usize)?))?;
     }
     Ok(())
 }
@@ -58,25 +58,41 @@ fn further(alloc: Global, vararg: bool, count: u64, values: &[Value]) -> Result<
     }
 }
 
-/// A function that begins, with its arguments.
-pub fn activation_of(
+/// Gives the function that runs its slots: its arguments, and nil in the others.
+fn fill_slots(proto: &Proto, values: &[Value], frames: &mut Frames) -> Result<(), NoMemory>
+    ensures { OnOk result (frames.new ≡ with_values (slot_values proto.now values.now) frames.old) }
+{
+    fill(proto.params, values, frames)?;
+    fill(proto.slots.saturating_sub(proto.params), &[], frames)?;
+    Ok(())
+}
+
+/// The functions at work where one begins, without arguments, and none waits.
+pub fn first_frames(alloc: Global, number: u64, proto: &Proto) -> Result<Frames, NoMemory>
+    ensures { IfOk result (λ frames. frames ≡ record { frame = frame_of number proto.now [] []; levels = [] }) }
+{
+    let cells = Cells::new(Vec::new(alloc))?;
+    let rest = further(alloc, proto.vararg, proto.params, &[])?;
+    let mut frames = Frames::new(alloc, number, cells, rest);
+    fill_slots(proto, &[], &mut frames)?;
+    Ok(frames)
+}
+
+/// A function begins with its arguments, and the one that ran waits for its results.
+fn enter(
     alloc: Global,
     number: u64,
     proto: &Proto,
     cells: Cells,
     values: &[Value],
-) -> Result<Activation, NoMemory>
-    ensures { IfOk result (λ activation. activation ≡ frame_of number proto.now cells values.now) }
+    frames: &mut Frames,
+) -> Result<(), NoMemory>
+    ensures { OnOk result (frames.new ≡ entered (frame_of number proto.now cells values.now) frames.old) }
 {
     let rest = further(alloc, proto.vararg, proto.params, values)?;
-    let mut activation = Activation::new(alloc, number, cells, rest);
-    fill(proto.params, values, &mut activation)?;
-    fill(
-        proto.slots.saturating_sub(proto.params),
-        &[],
-        &mut activation,
-    )?;
-    Ok(activation)
+    frames.enter(number, cells, rest)?;
+    fill_slots(proto, values, frames)?;
+    Ok(())
 }
 
 /// Takes a function's turn, and begins it.
@@ -99,8 +115,14 @@ fn enter_turn(
     let Some(proto) = function_at(functions, function) else {
         return Ok(Called::Stuck);
     };
-    let next = activation_of(state.alloc, function, proto, cells, values.as_slice())?;
-    state.frames.enter(next)?;
+    enter(
+        state.alloc,
+        function,
+        proto,
+        cells,
+        values.as_slice(),
+        &mut state.frames,
+    )?;
     Ok(Called::Entered)
 }
 

@@ -2,8 +2,7 @@ ghost use Rattle.std.specs.Prelude.{◌≡◌, [], IfOk, OnOk};
 ghost use Rattle.lua_code.specs.Steps.{begin_turn};
 ghost use Rattle.lua_machine.specs.Machines.{next_at, Tells, Settled};
 
-use crate::activation::Activation;
-use crate::calls::activation_of;
+use crate::calls::first_frames;
 use crate::closures::Cells;
 use crate::frames::Frames;
 use crate::lists::function_at;
@@ -53,9 +52,7 @@ fn begin(functions: &[Proto], state: &mut State) -> Result<Status, NoMemory>
     let Some(proto) = function_at(functions, 0) else {
         return Ok(Status::Stuck);
     };
-    let cells = Cells::new(Vec::new(state.alloc))?;
-    let main = activation_of(state.alloc, 0, proto, cells, &[])?;
-    state.frames = Frames::new(state.alloc, main);
+    state.frames = first_frames(state.alloc, 0, proto)?;
     state.closures = List::new(state.alloc);
     Ok(Status::Running)
 }
@@ -121,6 +118,5 @@ pub fn tell(
 /// Nothing runs.
 pub fn nothing(alloc: Global) -> Result<Frames, NoMemory> {
     let cells = Cells::new(Vec::new(alloc))?;
-    let idle = Activation::new(alloc, 0, cells, Values::new(alloc));
-    Ok(Frames::new(alloc, idle))
+    Ok(Frames::new(alloc, 0, cells, Values::new(alloc)))
 }

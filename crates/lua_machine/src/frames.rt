@@ -1,39 +1,89 @@
-ghost use Rattle.std.specs.Prelude.{◌≡◌, [], ◌∷◌, slice_get, MatchOption, IfOk, OnOk};
+ghost use Rattle.std.specs.Prelude.{◌≡◌, [], ◌∷◌, ◌<◌, slice_get, slice_set, vec_len, vec_capacity, MatchOption, IfOk, OnOk};
 ghost use Rattle.std.specs.Option.{option_copied};
 ghost use Rattle.lua_code.specs.Configurations.{calls_at_work};
-ghost use Rattle.lua_machine.specs.Frames.{at_next, at_place, with_item, with_slot, entered, Leaves};
+ghost use Rattle.lua_machine.specs.Frames.{at_next, at_place, with_item, with_slot, with_more_slots, fresh, entered, Leaves};
 
-use crate::activation::Activation;
+use crate::closures::Cells;
 use lua_code::{Item, Slot};
-use lua_values::Value;
+use lua_values::{Value, Values};
 use std::alloc::Global;
 use std::marker::Model;
 use std::mem;
 use tl_base::NoMemory;
 
-/// The function that runs, and those that wait for the results of their calls.
+/// A function at work without what it keeps in slots and on its stack, which stands behind what those below it keep.
+#[derive(Drop)]
+pub struct Head {
+    pub function: u64,
+    /// The place of its next instruction.
+    pub at: u64,
+    pub captured: Cells,
+    /// Its further arguments.
+    pub rest: Values,
+    /// Where its slots begin.
+    pub slots: usize,
+    /// Where its stack begins.
+    pub stack: usize,
+}
+
+/// The function that runs, and those that wait for the results of their calls. The slots of all stand in one vector, and so do their stacks.
 #[derive(Drop)]
 pub struct Frames {
-    running: Activation,
-    waiting: Vec<Activation>,
+    running: Head,
+    waiting: Vec<Head>,
+    slots: Vec<Slot>,
+    stack: Vec<Item>,
+}
+
+/// Makes room for one item more.
+#[inline(never)]
+fn grow<T>(items: &mut Vec<T>) -> Result<(), NoMemory>
+    ensures items { items.new.items ≡ items.old.items }
+    ensures room { OnOk result (vec_len items.new < vec_capacity items.new) }
+{
+    items.reserve(1)?;
+    Ok(())
+}
+
+/// Gives the slot at an index from 0 what it is to hold, if there is such a slot.
+#[inline(always)]
+fn put(slots: &mut [Slot], at: u64, slot: Slot)
+    ensures { slots.new ≡ slice_set slots.old at slot }
+{
+    if (at as usize) < slots.len() {
+        slots[at as usize] = slot;
+    }
 }
 
 impl Model for Frames {
-    ghost use Rattle.lua_machine.specs.Frames.{Activity, levels_of};
+    ghost use Rattle.std.specs.Prelude.{reverse, length, ◌∷◌, IsTrue};
+    ghost use Rattle.lua_machine.specs.Frames.{Activity};
+    ghost use Rattle.lua_machine.specs.Windows.{activity_in, are_within};
 
     ghost Value = { Activity };
 
-    ghost view = { λ f. record { frame = f.running; levels = levels_of f.waiting.items } };
+    ghost view = { λ f. activity_in f.running (reverse f.waiting.items) f.slots.items f.stack.items };
+
+    ghost invariant = { λ f. IsTrue (are_within (f.running ∷ reverse f.waiting.items) (length f.slots.items) (length f.stack.items)) };
 }
 
 impl Frames {
-    /// One function runs, and none waits.
-    pub fn new(alloc: Global, running: Activation) -> Frames
-        ensures { result ≡ record { frame = running; levels = [] } }
+    /// One function runs, which begins without its slots, and none waits.
+    pub fn new(alloc: Global, function: u64, captured: Cells, rest: Values) -> Frames
+        ensures { result ≡ record { frame = fresh function captured rest; levels = [] } }
     {
         Frames {
-            running,
+            running: Head {
+                function,
+                at: 0,
+                captured,
+                rest,
+                slots: 0,
+                stack: 0,
+            },
             waiting: Vec::new(alloc),
+            slots: Vec::new(alloc),
+            stack: Vec::new(alloc),
         }
     }
 
@@ -42,7 +92,7 @@ impl Frames {
     pub fn function(&self) -> u64
         ensures { result ≡ self.now.frame.function }
     {
-        self.running.function()
+        self.running.function
     }
 
     /// The place of its next instruction.
@@ -50,7 +100,7 @@ impl Frames {
     pub fn at(&self) -> u64
         ensures { result ≡ self.now.frame.at }
     {
-        self.running.at()
+        self.running.at
     }
 
     /// Goes on to the next instruction.
@@ -58,7 +108,8 @@ impl Frames {
     pub fn advance(&mut self) -> Result<(), NoMemory>
         ensures { OnOk result (self.new ≡ at_next self.old) }
     {
-        self.running.advance()
+        self.running.at = self.running.at.checked_add(1).ok_or(NoMemory)?;
+        Ok(())
     }
 
     /// Goes on at a place.
@@ -66,7 +117,7 @@ impl Frames {
     pub fn jump(&mut self, to: u64)
         ensures { self.new ≡ at_place to self.old }
     {
-        self.running.jump(to);
+        self.running.at = to;
     }
 
     /// Puts an item on the stack.
@@ -74,7 +125,11 @@ impl Frames {
     pub fn push(&mut self, item: Item) -> Result<(), NoMemory>
         ensures { OnOk result (self.new ≡ with_item item self.old) }
     {
-        self.running.push(item)
+        if self.stack.len() >= self.stack.capacity() {
+            grow(&mut self.stack)?;
+        }
+        self.stack.push_reserved(item);
+        Ok(())
     }
 
     /// Takes the item on the top of the stack.
@@ -82,15 +137,10 @@ impl Frames {
     pub fn pop(&mut self) -> Option<Item>
         ensures { MatchOption result ((self.old.frame.stack ≡ []) × (self.new ≡ self.old)) (λ item. self.old ≡ with_item item self.new) }
     {
-        self.running.pop()
-    }
-
-    /// The item on the top of the stack, lent.
-    #[inline(always)]
-    pub fn top(&self) -> Option<&Item>
-        ensures { option_copied result ≡ slice_get self.now.frame.stack 0 }
-    {
-        self.running.top()
+        if self.stack.len() <= self.running.stack {
+            return None;
+        }
+        self.stack.pop()
     }
 
     /// What a slot holds, if there is such a slot.
@@ -98,7 +148,7 @@ impl Frames {
     pub fn slot(&self, at: u64) -> Option<&Slot>
         ensures { option_copied result ≡ slice_get self.now.frame.slots at }
     {
-        self.running.slot(at)
+        self.slots.as_slice()[self.running.slots..].get(at as usize)
     }
 
     /// Gives a slot what it is to hold, if there is such a slot.
@@ -106,7 +156,20 @@ impl Frames {
     pub fn set_slot(&mut self, at: u64, slot: Slot)
         ensures { self.new ≡ with_slot at slot self.old }
     {
-        self.running.set_slot(at, slot);
+        let own = self.slots.slice_mut(self.running.slots..);
+        put(own, at, slot);
+    }
+
+    /// One slot more.
+    #[inline(always)]
+    pub fn push_slot(&mut self, slot: Slot) -> Result<(), NoMemory>
+        ensures { OnOk result (self.new ≡ with_more_slots slot self.old) }
+    {
+        if self.slots.len() >= self.slots.capacity() {
+            grow(&mut self.slots)?;
+        }
+        self.slots.push_reserved(slot);
+        Ok(())
     }
 
     /// The number of a captured cell, if there is one.
@@ -114,14 +177,14 @@ impl Frames {
     pub fn captured(&self, at: u64) -> Option<u64>
         ensures { result ≡ slice_get self.now.frame.captured at }
     {
-        self.running.captured(at)
+        self.running.captured.get(at)
     }
 
     /// The further arguments, lent.
     pub fn rest(&self) -> &[Value]
         ensures { result.now ≡ self.now.frame.rest }
     {
-        self.running.rest()
+        self.running.rest.as_slice()
     }
 
     /// How many functions wait.
@@ -132,11 +195,19 @@ impl Frames {
         self.waiting.len()
     }
 
-    /// A function begins, and the one that ran waits for its results.
+    /// A function begins, without its slots, and the one that ran waits for its results.
     #[inline(always)]
-    pub fn enter(&mut self, next: Activation) -> Result<(), NoMemory>
-        ensures { OnOk result (self.new ≡ entered next self.old) }
+    pub fn enter(&mut self, function: u64, captured: Cells, rest: Values) -> Result<(), NoMemory>
+        ensures { OnOk result (self.new ≡ entered (fresh function captured rest) self.old) }
     {
+        let next = Head {
+            function,
+            at: 0,
+            captured,
+            rest,
+            slots: self.slots.len(),
+            stack: self.stack.len(),
+        };
         let caller = mem::replace(&mut self.running, next);
         self.waiting.push(caller)?;
         Ok(())
@@ -149,6 +220,8 @@ impl Frames {
     {
         match self.waiting.pop() {
             Some(caller) => {
+                self.slots.truncate(self.running.slots);
+                self.stack.truncate(self.running.stack);
                 self.running = caller;
                 true
             }

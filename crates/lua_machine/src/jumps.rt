@@ -4,6 +4,7 @@ ghost use Rattle.lua_code.specs.Instructions.{pop_value, jump_where, keep_where,
 ghost use Rattle.lua_machine.specs.Flows.{Obeys};
 ghost use Rattle.lua_machine.specs.Loops.{held_value, AreBounds};
 
+use crate::lists::again;
 use crate::operators::{truth, worded};
 use crate::state::{Flow, State, raise, raise_kind};
 use lua_code::{Item, Slot};
@@ -120,7 +121,7 @@ fn held(at: u64, state: &State) -> Result<Option<Value>, NoMemory>
     ensures { IfOk result (λ value. value ≡ held_value (slice_get state.now.frames.frame.slots at)) }
 {
     match state.frames.slot(at) {
-        Some(Slot::Held(value)) => Ok(Some(value.copy()?)),
+        Some(Slot::Held(value)) => Ok(Some(again(value)?)),
         _ => Ok(None),
     }
 }

@@ -2,7 +2,6 @@
 #![tactic(auto)]
 
 mod act;
-mod activation;
 mod calls;
 mod closures;
 mod events;
@@ -18,8 +17,6 @@ mod running;
 mod state;
 mod store;
 mod sums;
-#[cfg(test)]
-mod tests;
 mod tracing;
 
 pub use events::Event;

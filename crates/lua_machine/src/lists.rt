@@ -8,7 +8,7 @@ ghost use Rattle.lua_meaning.specs.Trees.{adjust, first_of};
 ghost use Rattle.lua_machine.specs.Frames.{with_item, with_stack, PopsMany};
 ghost use Rattle.lua_machine.specs.Lists.{taken, cell_here, cells_here};
 ghost use Rattle.std.specs.Option.{option_copied};
-ghost use Rattle.lua_machine.specs.Flows.{Obeys};
+ghost use Rattle.lua_machine.specs.Flows.{Obeys, next_of_callee, next_of_results};
 
 use crate::closures::{Cells, Closure};
 use crate::frames::Frames;
@@ -25,9 +25,20 @@ pub fn or_nil(values: &[Value], at: usize) -> Result<Value, NoMemory>
     ensures { IfOk result (λ value. value ≡ slice_index_or values.now at held.Nil) }
 {
     match values.get(at) {
-        Some(value) => Ok(value.copy()?),
+        Some(value) => Ok(again(value)?),
         None => Ok(Value::Nil),
     }
+}
+
+/// The same value once more. An integer, which most are, is copied in place.
+#[inline(always)]
+pub fn again(value: &Value) -> Result<Value, NoMemory>
+    ensures { IfOk result (λ again. again ≡ value.now) }
+{
+    if let Value::Int(number) = value {
+        return Ok(Value::Int(*number));
+    }
+    value.copy()
 }
 
 /// The same values once more.
@@ -79,7 +90,7 @@ fn turned_round(
 }
 
 /// Takes so many values from the stack, the top last, and others behind them, and puts their list there.
-#[inline(always)]
+#[inline(never)]
 fn pack_with(place: Pos, count: u64, above: &[Value], state: &mut State) -> Result<Flow, NoMemory>
     ensures { IfOk result (λ flow. Obeys (meant_pop_values count above.now (λ vs. meant_push (item.Many vs))) place state.old state.new flow) }
 {
@@ -97,7 +108,23 @@ fn pack_with(place: Pos, count: u64, above: &[Value], state: &mut State) -> Resu
 pub fn pack(place: Pos, count: u64, state: &mut State) -> Result<Flow, NoMemory>
     ensures { IfOk result (λ flow. Obeys (meant_pop_values count [] (λ vs. meant_push (item.Many vs))) place state.old state.new flow) }
 {
-    pack_with(place, count, &[], state)
+    match count {
+        0 => {
+            let none = Values::new(state.alloc);
+            state.push_on(Item::Many(none))?;
+            Ok(Flow::On)
+        }
+        1 => {
+            let Some(Item::One(value)) = state.frames.pop() else {
+                return Ok(Flow::Stuck);
+            };
+            let mut values = Values::new(state.alloc);
+            values.push(value)?;
+            state.push_on(Item::Many(values))?;
+            Ok(Flow::On)
+        }
+        _ => pack_with(place, count, &[], state),
+    }
 }
 
 /// So many values and the list above them become a list.
@@ -183,30 +210,30 @@ pub fn rest(place: Pos, state: &mut State) -> Result<Flow, NoMemory>
     Ok(Flow::On)
 }
 
-/// Calls the value below the list of arguments.
+/// Takes the list of arguments and the value below it, which is to be called; `None` where they aren't there.
 #[inline(always)]
-pub fn call(place: Pos, state: &mut State) -> Result<Flow, NoMemory>
-    ensures { IfOk result (λ flow. Obeys (pop_list (λ vs. pop_value (λ callee. meant_call callee vs))) place state.old state.new flow) }
+pub fn callee(place: Pos, state: &mut State) -> Result<Option<(Value, Values)>, NoMemory>
+    ensures { IfOk result (λ taken. pop_list (λ vs. pop_value (λ callee. meant_call callee vs)) place state.old.frames.frame state.old.frames.levels state.old.store state.old.closures ≡ next_of_callee taken place state.new) }
 {
     let Some(Item::Many(values)) = state.frames.pop() else {
-        return Ok(Flow::Stuck);
+        return Ok(None);
     };
     let Some(Item::One(callee)) = state.frames.pop() else {
-        return Ok(Flow::Stuck);
+        return Ok(None);
     };
     state.frames.advance()?;
-    Ok(Flow::Call(place, callee, values))
+    Ok(Some((callee, values)))
 }
 
-/// Leaves the function with the list on the stack.
+/// Takes the list of results on the stack; `None` where there is none.
 #[inline(always)]
-pub fn leave(place: Pos, state: &mut State) -> Result<Flow, NoMemory>
-    ensures { IfOk result (λ flow. Obeys (pop_list (λ vs. meant_leave vs)) place state.old state.new flow) }
+pub fn results(place: Pos, state: &mut State) -> Option<Values>
+    ensures { pop_list (λ vs. meant_leave vs) place state.old.frames.frame state.old.frames.levels state.old.store state.old.closures ≡ next_of_results result state.new }
 {
     let Some(Item::Many(values)) = state.frames.pop() else {
-        return Ok(Flow::Stuck);
+        return None;
     };
-    Ok(Flow::Return(values))
+    Some(values)
 }
 
 /// The cell that a closure captures here, if it is there.

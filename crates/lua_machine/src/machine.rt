@@ -8,6 +8,7 @@ use crate::state::State;
 use crate::store::Store;
 use crate::tracing::{TraceStep, Tracing};
 use lua_code::Code;
+use lua_values::Value;
 use std::alloc::Global;
 use std::marker::Model;
 use tl_base::{Bytes, Crossing, List, ModuleKind, NoMemory, Pos};
@@ -48,6 +49,7 @@ impl Machine {
             frames: nothing(alloc)?,
             store: Store::new(alloc, files, kinds, turns),
             closures: List::new(alloc),
+            raised: Value::Nil,
         };
         Ok(Machine {
             code,

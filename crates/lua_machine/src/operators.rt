@@ -1,6 +1,7 @@
-ghost use Rattle.std.specs.Prelude.{◌≡◌, ◌++◌, codes, IfOk, OnOk};
+ghost use Rattle.std.specs.Prelude.{◌≡◌, ◌++◌, codes, IfSome, IfOk, OnOk};
 ghost use Rattle.lua_tree.specs.declared.syntax.BinaryOperator.TheVariants.{Concat, Less, LessEqual};
-ghost use Rattle.lua_meaning.specs.Operators.{kind_name, is_true, compute, integer_or, on_integers, text_in, joined as meant_joined, arithmetic as meant_arithmetic, bitwise as meant_bitwise, operate as meant, operate_on};
+ghost use Rattle.lua_values.specs.declared.value.Value.TheVariants.{Int};
+ghost use Rattle.lua_meaning.specs.Operators.{value_is, kind_name, is_true, compute, integer_or, on_integers, text_in, joined as meant_joined, arithmetic as meant_arithmetic, bitwise as meant_bitwise, operate as meant, operate_on};
 ghost use Rattle.lua_machine.specs.Answers.{answer_of, first_wrong};
 
 use lua_tree::{BinaryOperator, UnaryOperator};
@@ -94,6 +95,24 @@ fn computed(alloc: Global, operator: BinaryOperator, m: i64, n: i64) -> Result<A
         _ => return Ok(Answered::Value(Value::Nil)),
     };
     Ok(Answered::Value(Value::Int(number)))
+}
+
+/// The result of an operator on two integers, where it is one that can't fail.
+#[inline(always)]
+pub fn quick(operator: BinaryOperator, m: i64, n: i64) -> Option<i64>
+    ensures { IfSome result (λ number. compute operator m n ≡ value_is (Int number)) }
+{
+    match operator {
+        BinaryOperator::Add => Some(add(m, n)),
+        BinaryOperator::Subtract => Some(sub(m, n)),
+        BinaryOperator::Multiply => Some(mul(m, n)),
+        BinaryOperator::BitAnd => Some(band(m, n)),
+        BinaryOperator::BitOr => Some(bor(m, n)),
+        BinaryOperator::BitXor => Some(bxor(m, n)),
+        BinaryOperator::ShiftLeft => Some(shl(m, n)),
+        BinaryOperator::ShiftRight => Some(shr(m, n)),
+        _ => None,
+    }
 }
 
 /// The error of the first of two values that is no integer.

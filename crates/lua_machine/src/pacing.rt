@@ -1,5 +1,6 @@
 ghost use Rattle.std.specs.Prelude.{◌≡◌, [], ◌∷◌, Option, IfOk, OnOk};
-ghost use Rattle.lua_code.specs.declared.code.Instr.{Instr as Instruction};
+ghost use Rattle.lua_code.specs.declared.code.Instr.TheVariants.{Call, Return};
+ghost use Rattle.lua_code.specs.Instructions.{act as obeyed};
 ghost use Rattle.lua_code.specs.Configurations.{running, calling, giving, go};
 ghost use Rattle.lua_code.specs.Steps.{instruction as meant, begun_in};
 ghost use Rattle.lua_machine.specs.Calls.{levels_with_caller};
@@ -8,6 +9,7 @@ ghost use Rattle.lua_machine.specs.Pacing.{seen_of};
 
 use crate::act::act;
 use crate::calls::{Called, call};
+use crate::lists;
 use crate::lists::function_at;
 use crate::state::{Flow, State};
 use crate::tracing::{TraceStep, Tracing};
@@ -97,6 +99,30 @@ fn pace_return(values: Values, functions: &[Proto], state: &mut State) -> Result
     Ok(Pace::On)
 }
 
+/// Calls what stands below the list on the stack.
+#[inline(always)]
+fn do_call(place: Pos, functions: &[Proto], state: &mut State) -> Result<Pace, NoMemory>
+    ensures { IfOk result (λ pace. Paces functions.now (obeyed functions.now Call place state.old.frames.frame state.old.frames.levels state.old.store state.old.closures) pace state.new []) }
+{
+    let Some((callee, values)) = lists::callee(place, state)? else {
+        return Ok(Pace::Stuck);
+    };
+    let pace = pace_call(place, &callee, &values, functions, state)?;
+    Ok(pace)
+}
+
+/// Leaves the function that runs with the list on the stack.
+#[inline(always)]
+fn do_return(place: Pos, functions: &[Proto], state: &mut State) -> Result<Pace, NoMemory>
+    ensures { IfOk result (λ pace. Paces functions.now (obeyed functions.now Return place state.old.frames.frame state.old.frames.levels state.old.store state.old.closures) pace state.new []) }
+{
+    let Some(values) = lists::results(place, state) else {
+        return Ok(Pace::Stuck);
+    };
+    let pace = pace_return(values, functions, state)?;
+    Ok(pace)
+}
+
 /// Does one instruction.
 #[inline(always)]
 pub fn do_next(
@@ -115,18 +141,20 @@ pub fn do_next(
         function: state.frames.function(),
         at: state.frames.at(),
     })?;
-    match act(place, instr, functions, state)? {
-        Flow::On => Ok(Pace::On),
-        Flow::Call(place, callee, values) => {
-            let pace = pace_call(place, &callee, &values, functions, state)?;
+    match instr {
+        Instr::Call => {
+            let pace = do_call(place, functions, state)?;
             Ok(pace)
         }
-        Flow::Return(values) => {
-            let pace = pace_return(values, functions, state)?;
+        Instr::Return => {
+            let pace = do_return(place, functions, state)?;
             Ok(pace)
         }
-        Flow::Raise(value) => Ok(Pace::Raised(value)),
-        Flow::Spent => Ok(Pace::Spent),
-        Flow::Stuck => Ok(Pace::Stuck),
+        _ => match act(place, instr, functions, state)? {
+            Flow::On => Ok(Pace::On),
+            Flow::Raise => Ok(Pace::Raised(state.raised.copy()?)),
+            Flow::Spent => Ok(Pace::Spent),
+            Flow::Stuck => Ok(Pace::Stuck),
+        },
     }
 }

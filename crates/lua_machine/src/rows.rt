@@ -4,6 +4,7 @@ ghost use Rattle.lua_code.specs.declared.frames.Slot.TheVariants as slot;
 ghost use Rattle.lua_code.specs.Instructions.{from_slot, slot_cell, captured_cell, pop_value, push_value, set_slot as meant_set_slot, new_cell as meant_new_cell, read, write, dup as meant_dup, drop_top};
 ghost use Rattle.lua_machine.specs.Flows.{Obeys};
 
+use crate::lists::again;
 use crate::state::{Flow, State};
 use lua_code::{Item, Slot};
 use lua_values::Value;
@@ -15,7 +16,7 @@ pub fn get_slot(place: Pos, at: u64, state: &mut State) -> Result<Flow, NoMemory
     ensures { IfOk result (λ flow. Obeys (from_slot at (λ v. push_value v)) place state.old state.new flow) }
 {
     let value = match state.frames.slot(at) {
-        Some(Slot::Held(value)) => value.copy()?,
+        Some(Slot::Held(value)) => again(value)?,
         _ => return Ok(Flow::Stuck),
     };
     state.push_on(Item::One(value))?;
@@ -41,7 +42,7 @@ pub fn new_cell(place: Pos, at: u64, state: &mut State) -> Result<Flow, NoMemory
     ensures { IfOk result (λ flow. Obeys (from_slot at (λ v. meant_new_cell at v)) place state.old state.new flow) }
 {
     let value = match state.frames.slot(at) {
-        Some(Slot::Held(value)) => value.copy()?,
+        Some(Slot::Held(value)) => again(value)?,
         _ => return Ok(Flow::Stuck),
     };
     let cell = state.store.add(value)?;

@@ -9,7 +9,7 @@ use crate::frames::Frames;
 use crate::operators::Answered;
 use crate::store::Store;
 use lua_code::Item;
-use lua_values::{Text, Value, Values};
+use lua_values::{Text, Value};
 use std::alloc::Global;
 use tl_base::{Bytes, List, NoMemory, Pos};
 
@@ -20,19 +20,17 @@ pub struct State {
     pub frames: Frames,
     pub store: Store,
     pub closures: List<Closure>,
+    /// The value of the last error.
+    pub raised: Value,
 }
 
-/// What an instruction comes to.
-#[derive(Drop)]
+/// What an instruction comes to that neither calls nor leaves the function that runs. It holds nothing, so that it costs nothing to hand over.
+#[derive(Clone, Copy, Debug, PartialEq, Eq)]
 pub enum Flow {
     /// The function that runs goes on.
     On,
-    /// It calls a value at a place, and waits for the results.
-    Call(Pos, Value, Values),
-    /// It leaves with these results.
-    Return(Values),
-    /// An error's value leaves it, and all that wait.
-    Raise(Value),
+    /// An error leaves it, and all that wait.
+    Raise,
     /// A turn was wanted, and none was left.
     Spent,
     /// The code isn't well formed.
@@ -56,7 +54,8 @@ pub fn raise(place: Pos, what: Bytes, state: &mut State) -> Result<Flow, NoMemor
     ensures { IfOk result (λ flow. Obeys (fail what) place state.old state.new flow) }
 {
     let text = state.store.error_text(state.alloc, place, what.as_slice())?;
-    Ok(Flow::Raise(Value::Str(Text::new(state.alloc, text.as_slice())?)))
+    state.raised = Value::Str(Text::new(state.alloc, text.as_slice())?);
+    Ok(Flow::Raise)
 }
 
 /// Raises an error of kinds at a place, and records it.
@@ -66,11 +65,12 @@ pub fn raise_kind(place: Pos, what: Bytes, state: &mut State) -> Result<Flow, No
 {
     let text = state.store.error_text(state.alloc, place, what.as_slice())?;
     state.store.record(place);
-    Ok(Flow::Raise(Value::Str(Text::new(state.alloc, text.as_slice())?)))
+    state.raised = Value::Str(Text::new(state.alloc, text.as_slice())?);
+    Ok(Flow::Raise)
 }
 
 /// Goes on with what an operator answered.
-#[inline(always)]
+#[inline(never)]
 pub fn answer(place: Pos, answered: Answered, state: &mut State) -> Result<Flow, NoMemory>
     ensures { IfOk result (λ flow. Obeys (meant (answer_of answered)) place state.old state.new flow) }
 {

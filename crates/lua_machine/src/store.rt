@@ -3,6 +3,7 @@ ghost use Rattle.lua_meaning.specs.World.{read_cell, write_cell, with_cell, pass
 ghost use Rattle.lua_meaning.specs.Programs.{start};
 ghost use Rattle.lua_machine.specs.World.{kind_error_of, takes_turn};
 
+use crate::lists::again;
 use itoa::Buffer;
 use lua_values::Value;
 use std::alloc::Global;
@@ -107,7 +108,7 @@ impl Store {
         ensures { IfOk result (λ value. value ≡ read_cell (Some cell) self.now) }
     {
         match self.cells.get(cell as usize) {
-            Some(value) => Ok(value.copy()?),
+            Some(value) => Ok(again(value)?),
             None => Ok(Value::Nil),
         }
     }

@@ -5,7 +5,6 @@ ghost use Rattle.lua_code.specs.Instructions.{pop_value, answered, two, one};
 ghost use Rattle.lua_machine.specs.Flows.{Obeys};
 
 use crate::operators;
-use crate::operators::Answered;
 use crate::state::{Flow, State, answer};
 use lua_code::Item;
 use lua_tree::{BinaryOperator, UnaryOperator};
@@ -23,6 +22,26 @@ pub fn arithmetic(place: Pos, operator: BinaryOperator, state: &mut State) -> Re
     let Some(Item::One(x)) = state.frames.pop() else {
         return Ok(Flow::Stuck);
     };
+    if let (Value::Int(m), Value::Int(n)) = (&x, &y) {
+        if let Some(number) = operators::quick(operator, *m, *n) {
+            state.push_on(Item::One(Value::Int(number)))?;
+            return Ok(Flow::On);
+        }
+    }
+    arithmetic_on(place, operator, x, y, state)
+}
+
+/// The same on any two values.
+#[inline(never)]
+fn arithmetic_on(
+    place: Pos,
+    operator: BinaryOperator,
+    x: Value,
+    y: Value,
+    state: &mut State,
+) -> Result<Flow, NoMemory>
+    ensures { IfOk result (λ flow. Obeys (answered (meant_arithmetic operator x y)) place state.old state.new flow) }
+{
     let answered = operators::arithmetic(state.alloc, operator, &x, &y)?;
     answer(place, answered, state)
 }
@@ -38,12 +57,32 @@ pub fn bitwise(place: Pos, operator: BinaryOperator, state: &mut State) -> Resul
     let Some(Item::One(x)) = state.frames.pop() else {
         return Ok(Flow::Stuck);
     };
+    if let (Value::Int(m), Value::Int(n)) = (&x, &y) {
+        if let Some(number) = operators::quick(operator, *m, *n) {
+            state.push_on(Item::One(Value::Int(number)))?;
+            return Ok(Flow::On);
+        }
+    }
+    bitwise_on(place, operator, x, y, state)
+}
+
+/// The same on any two values.
+#[inline(never)]
+fn bitwise_on(
+    place: Pos,
+    operator: BinaryOperator,
+    x: Value,
+    y: Value,
+    state: &mut State,
+) -> Result<Flow, NoMemory>
+    ensures { IfOk result (λ flow. Obeys (answered (meant_bitwise operator x y)) place state.old state.new flow) }
+{
     let answered = operators::bitwise(state.alloc, operator, &x, &y)?;
     answer(place, answered, state)
 }
 
 /// `x .. y`.
-#[inline(always)]
+#[inline(never)]
 pub fn concatenate(place: Pos, state: &mut State) -> Result<Flow, NoMemory>
     ensures { IfOk result (λ flow. Obeys (two binary.Concat) place state.old state.new flow) }
 {
@@ -68,8 +107,8 @@ pub fn equal(place: Pos, state: &mut State) -> Result<Flow, NoMemory>
     let Some(Item::One(x)) = state.frames.pop() else {
         return Ok(Flow::Stuck);
     };
-    let same = x == y;
-    answer(place, Answered::Value(Value::Bool(same)), state)
+    state.push_on(Item::One(Value::Bool(x == y)))?;
+    Ok(Flow::On)
 }
 
 /// `x < y`.
@@ -83,6 +122,18 @@ pub fn less(place: Pos, state: &mut State) -> Result<Flow, NoMemory>
     let Some(Item::One(x)) = state.frames.pop() else {
         return Ok(Flow::Stuck);
     };
+    if let (Value::Int(m), Value::Int(n)) = (&x, &y) {
+        state.push_on(Item::One(Value::Bool(m.cmp(n).is_lt())))?;
+        return Ok(Flow::On);
+    }
+    less_on(place, x, y, state)
+}
+
+/// The same on any two values.
+#[inline(never)]
+fn less_on(place: Pos, x: Value, y: Value, state: &mut State) -> Result<Flow, NoMemory>
+    ensures { IfOk result (λ flow. Obeys (answered (operate binary.Less x y)) place state.old state.new flow) }
+{
     let answered = operators::less(state.alloc, &x, &y)?;
     answer(place, answered, state)
 }
@@ -98,12 +149,24 @@ pub fn less_equal(place: Pos, state: &mut State) -> Result<Flow, NoMemory>
     let Some(Item::One(x)) = state.frames.pop() else {
         return Ok(Flow::Stuck);
     };
+    if let (Value::Int(m), Value::Int(n)) = (&x, &y) {
+        state.push_on(Item::One(Value::Bool(m.cmp(n).is_le())))?;
+        return Ok(Flow::On);
+    }
+    less_equal_on(place, x, y, state)
+}
+
+/// The same on any two values.
+#[inline(never)]
+fn less_equal_on(place: Pos, x: Value, y: Value, state: &mut State) -> Result<Flow, NoMemory>
+    ensures { IfOk result (λ flow. Obeys (answered (operate binary.LessEqual x y)) place state.old state.new flow) }
+{
     let answered = operators::less_equal(state.alloc, &x, &y)?;
     answer(place, answered, state)
 }
 
 /// An operator before the value on the stack.
-#[inline(always)]
+#[inline(never)]
 pub fn before(place: Pos, operator: UnaryOperator, state: &mut State) -> Result<Flow, NoMemory>
     ensures { IfOk result (λ flow. Obeys (one operator) place state.old state.new flow) }
 {
