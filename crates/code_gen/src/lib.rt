@@ -11,8 +11,6 @@ mod sizes;
 mod slots;
 mod statements;
 mod sums;
-#[cfg(test)]
-mod tests;
 mod writer;
 
 pub use modules::generate;
