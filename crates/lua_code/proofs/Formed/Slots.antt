@@ -1,6 +1,5 @@
 -- What slots hold, and when it is enough.
-use Rattle.std.proofs.Common.{◌≡◌, refl, ap, sym, subst, ◌∙◌, ℕ, zero, suc, ◌+◌, ◌<◌, ◌≤◌, List, [], ◌∷◌, ◌++◌, length, replicate, slice_get, slice_set, Option, Some, None, arith}
-use Rattle.std.proofs.lemmas.List.{length-append, append_assoc}
+use Rattle.std.proofs.Common.{◌≡◌, refl, ap, sym, ◌∙◌, ℕ, zero, suc, ◌<◌, ◌≤◌, List, [], ◌∷◌, ◌++◌, length, replicate, slice_get, slice_set, Option, Some, None, arith}
 use Rattle.lua_code.specs.Shapes.{ItemKind, SlotKind, held, celled, either, Shape, IsEnough, IsEnoughIn, AreEnough, Meets}
 
 -- ---- enough
@@ -32,7 +31,7 @@ pub enough_same : (ks : List SlotKind) → AreEnough ks ks
 enough_same [] = tt
 enough_same (k ∷ ks) = (same_kind k, enough_same ks)
 
-enough_on : (a b c : List SlotKind) → AreEnough a b → AreEnough b c → AreEnough a c
+pub enough_on : (a b c : List SlotKind) → AreEnough a b → AreEnough b c → AreEnough a c
 enough_on [] [] c h k = k
 enough_on [] (y ∷ b) c h k = absurd h
 enough_on (x ∷ a) [] c h k = absurd h
