@@ -1,13 +1,11 @@
 -- Steps of the loops that put slots and cells, and stores.
-use Rattle.std.proofs.Common.{◌≡◌, refl, sym, ap, ◌∙◌, ℕ, zero, suc, ◌+◌, ◌-◌, ◌<◌, List, [], ◌∷◌, ◌++◌, length, take, get_or, append_assoc, arith}
+use Rattle.std.proofs.Common.{◌≡◌, refl, sym, ap, ◌∙◌, ℕ, zero, suc, ◌+◌, ◌-◌, ◌<◌, List, [], ◌∷◌, ◌++◌, length, take, get_or, arith}
 use Rattle.tl_base.specs.declared.place.Pos.{Pos}
 use Rattle.lua_tree.specs.declared.syntax.Expr.{Expr}
-use Rattle.lua_tree.specs.Tree.{Exp}
 use Rattle.lua_tree.specs.View.{exp_of, targets_of}
 use Rattle.lua_meaning.specs.Locals.{exp_locals}
-use Rattle.lua_code.specs.declared.code.Instr.{Instr}
 use Rattle.lua_code.specs.declared.code.Instr.TheVariants as instr
-use Rattle.lua_code.specs.Generated.{Placed, one, Scope, past, new_cells, set_slots, stores, store_instr}
+use Rattle.lua_code.specs.Generated.{one, Scope, new_cells, set_slots, stores, store_instr}
 use Rattle.code_gen.specs.Work.{Work, put_all, put}
 use Rattle.code_gen.proofs.Put.{put_more}
 use Rattle.code_gen.proofs.Forms.Statements.{stores_past}

@@ -1,5 +1,5 @@
 -- The size of a list of values from those of the values.
-use Rattle.std.proofs.Common.{◌≡◌, refl, sym, ℕ, ◌+◌, Bool, true, false, List, [], ◌∷◌, length, add-zero, add-one, ap, ◌∙◌, arith}
+use Rattle.std.proofs.Common.{◌≡◌, refl, sym, ℕ, ◌+◌, Bool, true, false, List, [], ◌∷◌, length, add-zero, add-one, ap, ◌∙◌}
 use Rattle.lua_tree.specs.declared.syntax.Expr.{Expr}
 use Rattle.lua_tree.specs.Tree as tree
 use Rattle.lua_tree.specs.Tree.{Exp, Exps, push}

@@ -1,5 +1,6 @@
--- The functions of a program, module by module, and what they mean.
-use Rattle.std.proofs.Common.{◌≡◌, ℕ, ◌+◌, ◌<◌, List, [], ◌∷◌, ◌++◌, length, map, IfOk, Result, Ok, Err, refl, sym, ap, ◌∙◌, subst, append_assoc, length-append, arith}
+-- The functions of a program, module by module, their shapes, and what they mean.
+use Rattle.std.proofs.Common.{◌≡◌, ℕ, ◌+◌, ◌<◌, List, [], ◌∷◌, ◌++◌, length, map, IfOk, Result, Ok, Err, sym, ap, ◌∙◌, subst, append_assoc, length-append, arith}
+use Rattle.std.proofs.lemmas.List.{length-map}
 use Rattle.tl_base.specs.declared.memory.NoMemory.{NoMemory}
 use Rattle.lua_tree.specs.declared.scoped.Scoped.{Scoped}
 use Rattle.lua_meaning.specs.Programs.{Module, module_of}
@@ -7,6 +8,7 @@ use Rattle.lua_code.specs.declared.code.Code.{Code}
 use Rattle.lua_code.specs.declared.code.Proto.{Proto}
 use Rattle.lua_code.specs.Sizes.{block_functions}
 use Rattle.lua_code.specs.Faithful.{IsFaithful}
+use Rattle.lua_code.specs.Shapes.{IsWellFormed}
 use Rattle.lua_code.specs.Generated.{block_protos, module_scope, main_protos, inner_protos, program}
 use Rattle.code_gen.specs.Modules.{module_proto}
 
@@ -37,3 +39,11 @@ pub written_means : ((m : Module) (ms : List Module) → IsFaithful (m ∷ ms) (
 written_means law [] r e h = absurd (omega (arith, h))
 written_means law (s ∷ ss) (Ok c) e h = subst (IsFaithful (map module_of (s ∷ ss))) (sym e) (law (module_of s) (map module_of ss))
 written_means law (s ∷ ss) (Err x) e h = tt
+
+-- what is well formed for each program is so where the program is written
+pub written_formed : ((m : Module) (ms : List Module) → IsWellFormed (program (m ∷ ms)) (length (m ∷ ms))) → (ss : List Scoped) (r : Result Code NoMemory) → IfOk r (λ c. c ≡ program (map module_of ss)) → 0 < length ss
+    → IfOk r (λ c. IsWellFormed c (length ss))
+written_formed law [] r e h = absurd (omega (arith, h))
+written_formed law (s ∷ ss) (Ok c) e h =
+    subst (λ c. IsWellFormed c (length (s ∷ ss))) (sym e) (subst (λ n. IsWellFormed (program (map module_of (s ∷ ss))) n) (length-map (s ∷ ss) module_of) (law (module_of s) (map module_of ss)))
+written_formed law (s ∷ ss) (Err x) e h = tt

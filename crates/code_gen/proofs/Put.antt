@@ -1,5 +1,5 @@
 -- Instructions one after another.
-use Rattle.std.proofs.Common.{◌≡◌, ℕ, ◌++◌, [], append_assoc}
+use Rattle.std.proofs.Common.{◌≡◌, ◌++◌, [], append_assoc}
 use Rattle.std.proofs.lemmas.List.{append-nil}
 use Rattle.lua_code.specs.Generated.{Placed}
 use Rattle.code_gen.specs.Work.{Work, put_all}

@@ -1,8 +1,7 @@
 -- Steps of the loops over the locals in scope.
-use Rattle.std.proofs.Common.{◌≡◌, refl, sym, ap, ◌∙◌, ℕ, zero, suc, ◌+◌, ◌-◌, ◌<◌, ◌≤◌, List, [], ◌∷◌, ◌++◌, length, map, reverse, take, drop, length-drop, append_assoc, arith, ⊎_elim}
-use Rattle.std.proofs.lemmas.List.{length-append, length-reverse, take_all, take-append-drop, reverse-append, drop_all}
-use Rattle.std.proofs.Math.Seq.{take-append_seam, drop-append_seam}
-use Rattle.std.proofs.lemmas.Bool.{cases_lt}
+use Rattle.std.proofs.Common.{◌≡◌, refl, sym, ap, ◌∙◌, ℕ, zero, suc, ◌+◌, ◌-◌, ◌<◌, List, [], ◌∷◌, ◌++◌, length, map, reverse, take, drop, length-drop, append_assoc, arith}
+use Rattle.std.proofs.lemmas.List.{length-reverse, take-append-drop, reverse-append}
+use Rattle.std.proofs.Math.Seq.{drop-append_seam}
 use Rattle.lua_code.specs.declared.code.Capture.{Capture}
 use Rattle.lua_code.specs.declared.code.Capture.TheVariants as capture
 use Rattle.lua_code.specs.Generated.{outer_from, in_slots}

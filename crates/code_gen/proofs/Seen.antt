@@ -1,5 +1,5 @@
 -- Bodies, clauses and returns as they are seen, and the elements of a list.
-use Rattle.std.proofs.Common.{◌≡◌, refl, sym, ap, ◌∙◌, ℕ, zero, suc, ◌+◌, ◌<◌, List, [], ◌∷◌, length, drop, get_or, arith}
+use Rattle.std.proofs.Common.{◌≡◌, sym, ap, ◌∙◌, ℕ, suc, ◌+◌, ◌<◌, List, ◌∷◌, length, drop, get_or, arith}
 use Rattle.std.proofs.Math.Seq.{drop-cons}
 use Rattle.lua_tree.specs.declared.syntax.Body.{Body, out-Body}
 use Rattle.lua_tree.specs.declared.syntax.Clause.{Clause, out-Clause}

@@ -1,12 +1,12 @@
 -- Steps of the loop over a list of values.
-use Rattle.std.proofs.Common.{◌≡◌, refl, sym, ap, ◌∙◌, ℕ, ◌+◌, ◌<◌, Bool, true, false, List, [], ◌∷◌, length, arith}
+use Rattle.std.proofs.Common.{◌≡◌, refl, sym, ap, ◌∙◌, ℕ, ◌+◌, ◌<◌, true, false, List, [], ◌∷◌, length, arith}
 use Rattle.tl_base.specs.declared.place.Pos.{Pos}
 use Rattle.lua_tree.specs.declared.syntax.Expr.{Expr}
 use Rattle.lua_tree.specs.Tree as tree
 use Rattle.lua_tree.specs.Tree.{Exp, Multi, Exps, push}
 use Rattle.lua_tree.specs.View.{exp_of, exps_of}
 use Rattle.lua_code.specs.declared.code.Instr.TheVariants as instr
-use Rattle.code_gen.specs.Work.{Work, put, with_exp, with_multi, with_values, with_list, is_open}
+use Rattle.code_gen.specs.Work.{Work, put, with_exp, with_values, with_list, is_open}
 use Rattle.code_gen.proofs.Forms.Expressions.{list_more, list_ends}
 
 push_some : (e x : Exp) (xs : Exps) → push e (push x xs) ≡ tree.more e (push x xs)

@@ -1,5 +1,5 @@
 -- The code of an operation around that of its operands: what stands between them, and what stands behind both.
-use Rattle.std.specs.Prelude.{ℕ, List, []}
+use Rattle.std.specs.Prelude.{ℕ, []}
 use Rattle.tl_base.specs.declared.place.Pos.{Pos}
 use Rattle.lua_tree.specs.declared.syntax.BinaryOperator.{BinaryOperator}
 use Rattle.lua_tree.specs.declared.syntax.BinaryOperator.TheVariants as binary

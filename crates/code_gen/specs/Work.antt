@@ -4,7 +4,7 @@ use Rattle.std.specs.Prelude.{ℕ, ◌+◌, ◌-◌, drop, Bool, true, false, Li
 use Rattle.tl_base.specs.declared.place.Pos.{Pos}
 use Rattle.lua_tree.specs.Tree as tree
 use Rattle.lua_tree.specs.Tree.{Exp, Multi, Exps, Function, Stat, Clauses, Else, Step, Block}
-use Rattle.lua_meaning.specs.Locals.{exp_locals, multi_locals, exps_locals, function_locals, step_locals, stat_locals, clauses_locals, else_locals, block_locals}
+use Rattle.lua_meaning.specs.Locals.{exp_locals, multi_locals, exps_locals, function_locals, step_locals, clauses_locals, else_locals, block_locals}
 use Rattle.lua_tree.specs.declared.scoped.Scoped.{Scoped}
 use Rattle.lua_meaning.specs.Environment.{Names}
 use Rattle.lua_meaning.specs.Programs.{module_of}
@@ -13,7 +13,7 @@ use Rattle.lua_code.specs.declared.code.Proto.{Proto}
 use Rattle.lua_code.specs.declared.code.Instr.{Instr}
 use Rattle.lua_code.specs.declared.code.Instr.TheVariants as instr
 use Rattle.lua_tree.specs.Places.{place_of}
-use Rattle.lua_code.specs.Sizes.{function_inner, block_size}
+use Rattle.lua_code.specs.Sizes.{block_size}
 use Rattle.lua_code.specs.Generated.{Placed, one, new_cells, begin_locals, proto_of, Scope, past, in_slots, behind_stat, behind_block, exp_code, multi_code, list_code, step_code, stat_code, clauses_code, else_code, block_code, exp_protos, multi_protos, exps_protos, function_protos, step_protos, stat_protos, clauses_protos, else_protos, block_protos}
 
 pub record Work : Type 0 where

@@ -2,13 +2,14 @@ ghost use Rattle.std.specs.Prelude.{◌≡◌, ◌+◌, ◌<◌, ◌++◌, lengt
 ghost use Rattle.lua_meaning.specs.Programs.{module_of};
 ghost use Rattle.lua_code.specs.Generated.{block_protos, module_scope, main_protos, inner_protos, program};
 ghost use Rattle.lua_code.specs.Faithful.{IsFaithful};
+ghost use Rattle.lua_code.specs.Shapes.{IsWellFormed};
 ghost use Rattle.code_gen.specs.Modules.{module_proto};
 
 use crate::functions::{Header, proto};
 use crate::scope::Scope;
 use crate::slots::block_slots;
 use crate::writer::Writer;
-use lua_code::{Code, Proto, code_has_the_meaning};
+use lua_code::{Code, Proto, code_has_the_meaning, code_is_well_formed};
 use lua_tree::Scoped;
 use std::alloc::Global;
 use tl_base::{List, NoMemory, Pos};
@@ -78,8 +79,10 @@ fn blocks(
 /// more than 2^32 modules, are want of memory.
 pub fn generate(alloc: Global, modules: &[Scoped]) -> Result<Code, NoMemory>
     ensures code { IfOk result (λ c. c ≡ program (map module_of modules.now)) }
+    ensures formed { 0 < length modules.now → IfOk result (λ c. IsWellFormed c (length modules.now)) }
     ensures faithful { 0 < length modules.now → IfOk result (IsFaithful (map module_of modules.now)) }
 {
+    code_is_well_formed();
     code_has_the_meaning();
     written(alloc, modules)
 }

@@ -1,7 +1,8 @@
-use crate::generate;
+use code_gen::generate;
 use lua_code::listing;
 use lua_tree::{
-    BinaryOperator, Block, Body, Chunk, Expr, LibName, Name, Rest, Return, Scoped, Stat, Typed, Use,
+    BinaryOperator, Block, Body, Chunk, Clause, Expr, LibName, Name, Rest, Return, Scoped, Stat,
+    Typed, Use,
 };
 use std::alloc::Global;
 use std::test::Fail;
@@ -84,6 +85,114 @@ function 1 params 0 vararg 1 slots 0 captures 0
 1:4 Return
 ";
 
+const REPEAT: &str = "\
+function 0 params 0 vararg 0 slots 1 captures 0
+0:0 Turn
+0:1 Int 1
+0:2 Pack 1
+0:3 Spread 1
+0:4 SetSlot 0
+0:5 NewCell 0
+0:6 GetCell 0
+0:7 JumpIfNot 0
+0:8 Pack 0
+0:9 Return
+";
+
+const CHOICE: &str = "\
+function 0 params 0 vararg 0 slots 0 captures 0
+0:0 True
+0:1 JumpIfNot 8
+0:2 Lib print
+0:3 Pack 0
+0:4 Call
+0:5 First
+0:6 Pop
+0:7 Jump 14
+0:8 Lib print
+0:9 Int 1
+0:10 Pack 1
+0:11 Call
+0:12 First
+0:13 Pop
+0:14 Pack 0
+0:15 Return
+";
+
+const EACH: &str = "\
+function 0 params 0 vararg 0 slots 4 captures 0
+0:0 Lib print
+0:1 Pack 1
+0:2 Spread 3
+0:3 SetSlot 2
+0:4 SetSlot 1
+0:5 SetSlot 0
+0:6 Jump 11
+0:7 Turn
+0:8 Spread 1
+0:9 SetSlot 3
+0:10 NewCell 3
+0:11 GetSlot 0
+0:12 GetSlot 1
+0:13 GetSlot 2
+0:14 Pack 2
+0:15 Call
+0:16 Dup
+0:17 First
+0:18 Dup
+0:19 SetSlot 2
+0:20 Nil
+0:21 Eq
+0:22 JumpIfNot 7
+0:23 Pop
+0:24 Pack 0
+0:25 Return
+";
+
+const BOTH: &str = "\
+function 0 params 0 vararg 0 slots 1 captures 0
+0:0 Lib print
+0:1 Int 1
+0:2 Int 2
+0:3 Lt
+0:4 KeepIfNot 10
+0:5 Int 3
+0:6 SetSlot 0
+0:7 Int 4
+0:8 GetSlot 0
+0:9 Lt
+0:10 Pack 1
+0:11 Call
+0:12 First
+0:13 Pop
+0:14 Pack 0
+0:15 Return
+";
+
+const CAPTURE: &str = "\
+function 0 params 0 vararg 0 slots 2 captures 0
+0:0 Int 1
+0:1 Pack 1
+0:2 Spread 1
+0:3 SetSlot 0
+0:4 NewCell 0
+0:5 Nil
+0:6 SetSlot 1
+0:7 NewCell 1
+0:8 Closure 1
+0:9 SetCell 1
+0:10 Pack 0
+0:11 Return
+function 1 params 1 vararg 0 slots 1 captures 2
+1:0 NewCell 0
+1:1 GetCell 0
+1:2 Pack 1
+1:3 Spread 1
+1:4 SetUp 1
+1:5 Pack 0
+1:6 Return
+";
+
 const TWO: &str = "\
 function 0 params 0 vararg 0 slots 1 captures 0
 0:0 Closure 2
@@ -117,7 +226,7 @@ fn at(column: u32) -> Pos {
     }
 }
 
-fn named(alloc: Global, column: u32) -> Result<Name, NoMemory> {
+fn name(alloc: Global, column: u32) -> Result<Name, NoMemory> {
     Ok(Name {
         pos: at(column),
         text: Bytes::from_slice(alloc, b"x")?,
@@ -130,9 +239,61 @@ fn one<T: Drop>(alloc: Global, item: T) -> Result<List<T>, NoMemory> {
     Ok(items)
 }
 
+fn two<T: Drop>(alloc: Global, first: T, second: T) -> Result<List<T>, NoMemory> {
+    let mut items = one(alloc, first)?;
+    items.push(second)?;
+    Ok(items)
+}
+
 fn typed(alloc: Global, column: u32) -> Result<List<Typed>, NoMemory> {
-    let name = named(alloc, column)?;
+    let name = name(alloc, column)?;
     one(alloc, Typed { name, ty: None })
+}
+
+fn used(alloc: Global, column: u32, number: u32) -> Result<Expr, NoMemory> {
+    Ok(Expr::Name(at(column), number, Bytes::from_slice(alloc, b"x")?))
+}
+
+/// Two operands with an operator between them.
+fn binary(
+    alloc: Global,
+    operator: BinaryOperator,
+    left: Expr,
+    right: Expr,
+) -> Result<Expr, NoMemory> {
+    let left = Boxed::new(alloc, left)?;
+    let right = Boxed::new(alloc, right)?;
+    Ok(Expr::Binary(at(7), operator, left, right))
+}
+
+/// A call of `print`, which is this use.
+fn print(alloc: Global, number: u32, values: List<Expr>) -> Result<Stat, NoMemory> {
+    let callee = Boxed::new(alloc, used(alloc, 1, number)?)?;
+    Ok(Stat::Call(at(1), Expr::Call(at(1), callee, values)))
+}
+
+fn block(stats: List<Stat>) -> Block {
+    Block {
+        stats,
+        result: None,
+    }
+}
+
+fn body(
+    alloc: Global,
+    params: List<Typed>,
+    rest: Option<Rest>,
+    block: Block,
+) -> Result<Boxed<Body>, NoMemory> {
+    Boxed::new(
+        alloc,
+        Body {
+            params,
+            rest,
+            results: None,
+            block,
+        },
+    )
 }
 
 fn module(alloc: Global, stats: List<Stat>, uses: List<Use>) -> Scoped {
@@ -140,10 +301,7 @@ fn module(alloc: Global, stats: List<Stat>, uses: List<Use>) -> Scoped {
         chunk: Chunk {
             module: 0,
             kind: ModuleKind::Untyped,
-            body: Block {
-                stats,
-                result: None,
-            },
+            body: block(stats),
         },
         uses,
         locals: List::new(alloc),
@@ -153,77 +311,133 @@ fn module(alloc: Global, stats: List<Stat>, uses: List<Use>) -> Scoped {
 
 /// `print(1 + 2)`
 fn print_sum(alloc: Global) -> Result<Scoped, NoMemory> {
-    let callee = Expr::Name(at(1), 0, Bytes::from_slice(alloc, b"print")?);
-    let left = Boxed::new(alloc, Expr::Int(at(7), 1))?;
-    let right = Boxed::new(alloc, Expr::Int(at(11), 2))?;
-    let sum = Expr::Binary(at(7), BinaryOperator::Add, left, right);
-    let call = Expr::Call(at(1), Boxed::new(alloc, callee)?, one(alloc, sum)?);
-    let stats = one(alloc, Stat::Call(at(1), call))?;
-    Ok(module(alloc, stats, one(alloc, Use::Lib(LibName::Print))?))
+    let sum = binary(
+        alloc,
+        BinaryOperator::Add,
+        Expr::Int(at(7), 1),
+        Expr::Int(at(11), 2),
+    )?;
+    let stat = print(alloc, 0, one(alloc, sum)?)?;
+    let uses = one(alloc, Use::Lib(LibName::Print))?;
+    Ok(module(alloc, one(alloc, stat)?, uses))
+}
+
+/// `print(1 < 2 and 3 > 4)`
+fn print_both(alloc: Global) -> Result<Scoped, NoMemory> {
+    let left = binary(
+        alloc,
+        BinaryOperator::Less,
+        Expr::Int(at(7), 1),
+        Expr::Int(at(11), 2),
+    )?;
+    let right = binary(
+        alloc,
+        BinaryOperator::Greater,
+        Expr::Int(at(17), 3),
+        Expr::Int(at(21), 4),
+    )?;
+    let value = binary(alloc, BinaryOperator::And, left, right)?;
+    let stat = print(alloc, 0, one(alloc, value)?)?;
+    let uses = one(alloc, Use::Lib(LibName::Print))?;
+    Ok(module(alloc, one(alloc, stat)?, uses))
 }
 
 /// `while true do break end`
 fn leave_at_once(alloc: Global) -> Result<Scoped, NoMemory> {
-    let block = Block {
-        stats: one(alloc, Stat::Break(at(15)))?,
-        result: None,
+    let inner = block(one(alloc, Stat::Break(at(15)))?);
+    let stat = Stat::While(at(1), Expr::Bool(at(7), true), inner);
+    Ok(module(alloc, one(alloc, stat)?, List::new(alloc)))
+}
+
+/// `repeat local x = 1 until x`
+fn repeat_once(alloc: Global) -> Result<Scoped, NoMemory> {
+    let local = Stat::Local(at(8), typed(alloc, 14)?, one(alloc, Expr::Int(at(18), 1))?);
+    let inner = block(one(alloc, local)?);
+    let stat = Stat::Repeat(at(1), inner, used(alloc, 26, 0)?);
+    let uses = one(alloc, Use::Local(0))?;
+    Ok(module(alloc, one(alloc, stat)?, uses))
+}
+
+/// `if true then print() else print(1) end`
+fn choose_one(alloc: Global) -> Result<Scoped, NoMemory> {
+    let first = print(alloc, 0, List::new(alloc))?;
+    let second = print(alloc, 1, one(alloc, Expr::Int(at(33), 1))?)?;
+    let clause = Clause {
+        condition: Expr::Bool(at(4), true),
+        block: block(one(alloc, first)?),
     };
-    let stats = one(alloc, Stat::While(at(1), Expr::Bool(at(7), true), block))?;
-    Ok(module(alloc, stats, List::new(alloc)))
+    let stat = Stat::If(at(1), one(alloc, clause)?, Some(block(one(alloc, second)?)));
+    let uses = two(alloc, Use::Lib(LibName::Print), Use::Lib(LibName::Print))?;
+    Ok(module(alloc, one(alloc, stat)?, uses))
 }
 
 /// `local x = 1 x = x`
 fn store_back(alloc: Global) -> Result<Scoped, NoMemory> {
-    let mut stats = one(
-        alloc,
-        Stat::Local(at(1), typed(alloc, 7)?, one(alloc, Expr::Int(at(11), 1))?),
-    )?;
-    let target = Expr::Name(at(13), 0, Bytes::from_slice(alloc, b"x")?);
-    let value = Expr::Name(at(17), 1, Bytes::from_slice(alloc, b"x")?);
-    stats.push(Stat::Assign(at(13), one(alloc, target)?, one(alloc, value)?))?;
-    let mut uses = one(alloc, Use::Local(0))?;
-    uses.push(Use::Local(0))?;
+    let local = Stat::Local(at(1), typed(alloc, 7)?, one(alloc, Expr::Int(at(11), 1))?);
+    let target = one(alloc, used(alloc, 13, 0)?)?;
+    let value = one(alloc, used(alloc, 17, 1)?)?;
+    let stats = two(alloc, local, Stat::Assign(at(13), target, value))?;
+    let uses = two(alloc, Use::Local(0), Use::Local(0))?;
     Ok(module(alloc, stats, uses))
 }
 
 /// `for x = 1, 2 do end`
 fn count_to_two(alloc: Global) -> Result<Scoped, NoMemory> {
-    let block = Block {
-        stats: List::new(alloc),
-        result: None,
-    };
     let stat = Stat::NumericFor(
         at(1),
-        named(alloc, 5)?,
+        name(alloc, 5)?,
         Expr::Int(at(9), 1),
         Expr::Int(at(12), 2),
         None,
-        block,
+        block(List::new(alloc)),
     );
     Ok(module(alloc, one(alloc, stat)?, List::new(alloc)))
 }
 
+/// `for x in print do end`
+fn call_print(alloc: Global) -> Result<Scoped, NoMemory> {
+    let stat = Stat::GenericFor(
+        at(1),
+        one(alloc, name(alloc, 5)?)?,
+        one(alloc, used(alloc, 10, 0)?)?,
+        block(List::new(alloc)),
+    );
+    let uses = one(alloc, Use::Lib(LibName::Print))?;
+    Ok(module(alloc, one(alloc, stat)?, uses))
+}
+
 /// `local x = function(...) return ... end`
 fn give_all(alloc: Global) -> Result<Scoped, NoMemory> {
-    let block = Block {
+    let inner = Block {
         stats: List::new(alloc),
         result: Some(Return {
             pos: at(25),
             values: one(alloc, Expr::Vararg(at(32)))?,
         }),
     };
-    let body = Body {
-        params: List::new(alloc),
-        rest: Some(Rest {
-            pos: at(20),
-            ty: None,
-        }),
-        results: None,
-        block,
+    let rest = Rest {
+        pos: at(20),
+        ty: None,
     };
-    let function = Expr::Function(at(11), Boxed::new(alloc, body)?);
+    let function = Expr::Function(at(11), body(alloc, List::new(alloc), Some(rest), inner)?);
     let stat = Stat::Local(at(1), typed(alloc, 7)?, one(alloc, function)?);
     Ok(module(alloc, one(alloc, stat)?, List::new(alloc)))
+}
+
+/// `local x = 1 local function f(y) x = y end`
+fn store_outside(alloc: Global) -> Result<Scoped, NoMemory> {
+    let local = Stat::Local(at(1), typed(alloc, 7)?, one(alloc, Expr::Int(at(11), 1))?);
+    let target = one(alloc, used(alloc, 33, 0)?)?;
+    let value = one(alloc, used(alloc, 37, 1)?)?;
+    let inner = block(one(alloc, Stat::Assign(at(33), target, value))?);
+    let function = Expr::Function(at(13), body(alloc, typed(alloc, 30)?, None, inner)?);
+    let stats = two(
+        alloc,
+        local,
+        Stat::LocalFunction(at(13), name(alloc, 28)?, function),
+    )?;
+    let uses = two(alloc, Use::Local(0), Use::Local(2))?;
+    Ok(module(alloc, stats, uses))
 }
 
 fn written(alloc: Global, modules: List<Scoped>) -> Result<Bytes, NoMemory> {
@@ -231,28 +445,33 @@ fn written(alloc: Global, modules: List<Scoped>) -> Result<Bytes, NoMemory> {
     listing(alloc, &code)
 }
 
+/// Whether the code of one module has this listing.
+fn lists(alloc: Global, module: Scoped, expected: &str) -> Result<bool, NoMemory> {
+    let text = written(alloc, one(alloc, module)?)?;
+    Ok(text.as_slice() == expected.as_bytes())
+}
+
 #[test]
 fn code_is_written(rt: HostRuntime) -> Result<(), Fail> {
     let alloc = rt.alloc();
-    let print = written(alloc, one(alloc, print_sum(alloc)?)?)?;
-    assert_eq!(rt; print.as_slice(), PRINT.as_bytes());
-    let repeated = written(alloc, one(alloc, leave_at_once(alloc)?)?)?;
-    assert_eq!(rt; repeated.as_slice(), LOOP.as_bytes());
-    let local = written(alloc, one(alloc, store_back(alloc)?)?)?;
-    assert_eq!(rt; local.as_slice(), LOCAL.as_bytes());
-    let count = written(alloc, one(alloc, count_to_two(alloc)?)?)?;
-    assert_eq!(rt; count.as_slice(), COUNT.as_bytes());
-    let closure = written(alloc, one(alloc, give_all(alloc)?)?)?;
-    assert_eq!(rt; closure.as_slice(), CLOSURE.as_bytes());
+    assert!(rt; lists(alloc, print_sum(alloc)?, PRINT)?);
+    assert!(rt; lists(alloc, print_both(alloc)?, BOTH)?);
+    assert!(rt; lists(alloc, leave_at_once(alloc)?, LOOP)?);
+    assert!(rt; lists(alloc, repeat_once(alloc)?, REPEAT)?);
+    assert!(rt; lists(alloc, choose_one(alloc)?, CHOICE)?);
+    assert!(rt; lists(alloc, store_back(alloc)?, LOCAL)?);
+    assert!(rt; lists(alloc, count_to_two(alloc)?, COUNT)?);
+    assert!(rt; lists(alloc, call_print(alloc)?, EACH)?);
+    assert!(rt; lists(alloc, give_all(alloc)?, CLOSURE)?);
+    assert!(rt; lists(alloc, store_outside(alloc)?, CAPTURE)?);
     Ok(())
 }
 
 #[test]
 fn blocks_come_before_bodies(rt: HostRuntime) -> Result<(), Fail> {
     let alloc = rt.alloc();
-    let mut modules = one(alloc, give_all(alloc)?)?;
-    modules.push(leave_at_once(alloc)?)?;
-    let two = written(alloc, modules)?;
-    assert_eq!(rt; two.as_slice(), TWO.as_bytes());
+    let modules = two(alloc, give_all(alloc)?, leave_at_once(alloc)?)?;
+    let text = written(alloc, modules)?;
+    assert_eq!(rt; text.as_slice(), TWO.as_bytes());
     Ok(())
 }

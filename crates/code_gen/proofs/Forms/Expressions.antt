@@ -1,5 +1,5 @@
 -- What each form of expression adds, from what its parts add.
-use Rattle.std.proofs.Common.{◌≡◌, refl, sym, ap, ◌∙◌, ℕ, zero, suc, ◌+◌, ℤ, pos, Bool, true, false, List, [], ◌∷◌, ◌++◌, length, arith, add_assoc, append_assoc, add-zero}
+use Rattle.std.proofs.Common.{◌≡◌, refl, ℕ, ◌+◌, ℤ, pos, Bool, true, false, List, ◌++◌, length, add_assoc, append_assoc, add-zero}
 use Rattle.std.proofs.lemmas.List.{length-append, append-nil}
 use Rattle.tl_base.specs.declared.place.Pos.{Pos}
 use Rattle.tl_base.specs.declared.crossing.CrossKind.{CrossKind}
@@ -10,15 +10,13 @@ use Rattle.lua_tree.specs.declared.syntax.BinaryOperator.TheVariants as binary
 use Rattle.lua_tree.specs.declared.syntax.UnaryOperator.{UnaryOperator}
 use Rattle.lua_tree.specs.Tree.{Exp, Multi, Exps, Entries, Function, Stat, Clauses, Else, Step, Block}
 use Rattle.lua_tree.specs.Places.{place_of, multi_place}
-use Rattle.lua_meaning.specs.Locals.{entries_locals, exp_locals, multi_locals, exps_locals, function_locals, step_locals, stat_locals, clauses_locals, else_locals, block_locals}
-use Rattle.lua_code.specs.declared.code.Proto.{Proto}
-use Rattle.lua_code.specs.declared.code.Instr.{Instr}
+use Rattle.lua_meaning.specs.Locals.{entries_locals, exp_locals, exps_locals}
 use Rattle.lua_code.specs.declared.code.Instr.TheVariants as instr
-use Rattle.lua_code.specs.Sizes.{operator_gap, operator_size, operator_slots, exp_size, multi_size, exps_size, exp_functions, multi_functions, exps_functions, function_inner}
-use Rattle.lua_code.specs.Generated.{Placed, one, Scope, past, taken, read_use, use_in, field_instr, truth_instr, unary_instr, binary_code, mark_at, exp_code, multi_code, list_code, step_code, exp_protos, multi_protos, exps_protos, function_protos, step_protos}
-use Rattle.lua_code.proofs.Faithful.Lengths.{exp_length, multi_length, list_length, exp_count, multi_count, exps_count, function_count}
+use Rattle.lua_code.specs.Sizes.{operator_gap, operator_slots, exp_size, function_inner}
+use Rattle.lua_code.specs.Generated.{Placed, read_use, use_in, field_instr, truth_instr, unary_instr, binary_code}
+use Rattle.lua_code.proofs.Faithful.Lengths.{exp_length, exp_count}
 use Rattle.code_gen.specs.Pieces.{between, behind}
-use Rattle.code_gen.specs.Work.{Work, left, entered, declaring, leaving, base, grown, skip, free_from, next_from, with_scope, put_all, put, with_exp, with_multi, with_values, is_open, with_list, with_step, with_function}
+use Rattle.code_gen.specs.Work.{Work, declaring, leaving, base, skip, free_from, next_from, put_all, put, with_exp, with_multi, with_values, is_open, with_list, with_step, with_function}
 
 -- ---- lists of values
 

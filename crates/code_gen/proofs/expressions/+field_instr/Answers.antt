@@ -1,4 +1,4 @@
-use Rattle.std.proofs.Common.{◌≡◌, ap, ◌∙◌, sym}
+use Rattle.std.proofs.Common.{ap, ◌∙◌, sym}
 use Rattle.lua_tree.specs.View.{exp_of}
 use Rattle.lua_tree.proofs.Views.{exp_of-Mark}
 use Rattle.lua_code.specs.Generated.{field_instr}

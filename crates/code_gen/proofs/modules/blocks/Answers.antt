@@ -1,4 +1,4 @@
-use Rattle.std.proofs.Common.{◌≡◌, ◌+◌, [], ◌∷◌, ◌++◌, length, drop, map, sym, ap, ◌∙◌}
+use Rattle.std.proofs.Common.{◌+◌, ◌++◌, length, drop, map, sym, ap, ◌∙◌}
 use Rattle.lua_meaning.specs.Programs.{module_of}
 use Rattle.lua_code.specs.Sizes.{block_functions}
 use Rattle.lua_code.specs.Generated.{block_protos, module_scope, main_protos, inner_protos}

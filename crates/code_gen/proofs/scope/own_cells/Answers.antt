@@ -1,4 +1,4 @@
-use Rattle.std.proofs.Common.{◌≡◌, ap, ◌∙◌, map, reverse, take}
+use Rattle.std.proofs.Common.{ap, ◌∙◌, map, reverse}
 use Rattle.std.proofs.lemmas.List.{take_all}
 use Rattle.lua_code.specs.declared.code.Capture.TheVariants as capture
 use Rattle.code_gen.proofs.Scopes.{cells_of_slots}

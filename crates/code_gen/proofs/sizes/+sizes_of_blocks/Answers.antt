@@ -1,8 +1,8 @@
-use Rattle.std.proofs.Common.{rules, ◌≡◌, ℕ, ◌+◌, length, arith, ap, ◌∙◌}
+use Rattle.std.proofs.Common.{◌≡◌, arith, ap, ◌∙◌}
 use Rattle.lua_tree.specs.Tree as tree
 use Rattle.lua_tree.proofs.Views.{stat_of-Assign}
-use Rattle.lua_tree.specs.View.{exp_of, exps_of, targets_of, stat_of}
-use Rattle.lua_code.specs.Sizes.{exps_size, stat_size, targets_size}
+use Rattle.lua_tree.specs.View.{exps_of, targets_of, stat_of}
+use Rattle.lua_code.specs.Sizes.{exps_size}
 use Rattle.code_gen.proofs.Lists.{targets_long}
 use Rattle.code_gen.proofs.sizes.+sizes_of_blocks.Goals as goal
 

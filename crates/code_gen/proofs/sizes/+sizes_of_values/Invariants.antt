@@ -1,8 +1,6 @@
-use Rattle.std.proofs.Common.{◌≡◌, ◌+◌, drop, map}
-use Rattle.std.specs.Option.{option_map}
-use Rattle.lua_tree.specs.declared.syntax.Block.{out-Block}
-use Rattle.lua_tree.specs.View.{exps_of, clauses_of, stat_of, return_of, block_from, block_of}
-use Rattle.lua_code.specs.Sizes.{exps_size, clauses_size, block_size}
+use Rattle.std.proofs.Common.{◌≡◌, ◌+◌, drop}
+use Rattle.lua_tree.specs.View.{exps_of}
+use Rattle.lua_code.specs.Sizes.{exps_size}
 use Rattle.code_gen.proofs.Lists.{rest_size}
 use Rattle.code_gen.proofs.sizes.+sizes_of_values.Given as goal
 

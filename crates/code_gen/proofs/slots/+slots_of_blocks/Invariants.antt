@@ -1,8 +1,8 @@
 use Rattle.std.proofs.Common.{◌≡◌, ◌+◌, max, drop, map}
 use Rattle.std.specs.Option.{option_map}
 use Rattle.lua_tree.specs.declared.syntax.Block.{out-Block}
-use Rattle.lua_tree.specs.View.{exps_of, clauses_of, stat_of, return_of, block_from, block_of}
-use Rattle.lua_code.specs.Sizes.{exps_slots, clauses_slots, block_slots}
+use Rattle.lua_tree.specs.View.{clauses_of, stat_of, return_of, block_from, block_of}
+use Rattle.lua_code.specs.Sizes.{clauses_slots, block_slots}
 use Rattle.code_gen.proofs.slots.+slots_of_blocks.Given as goal
 
 abbrev pub invariant-clauses_slots-loop-clause : goal.invariant-clauses_slots-loop-clause

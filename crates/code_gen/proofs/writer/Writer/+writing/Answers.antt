@@ -1,22 +1,22 @@
-use Rattle.std.proofs.Common.{◌≡◌, refl, sym, ap, ap₂, ◌∙◌, ℕ, ◌+◌, ◌≤◌, ◌<◌, length, drop, length-drop, map, List, [], ◌∷◌, Option, None, Some, true, false, arith}
+use Rattle.std.proofs.Common.{◌≡◌, sym, ap, ap₂, ◌∙◌, ◌+◌, ◌<◌, length, drop, length-drop, map, [], ◌∷◌, Some, true, false, arith}
 use Rattle.std.specs.Option.{option_map, is_some}
 use Rattle.std.proofs.lemmas.List.{drop_all}
 use Rattle.lua_tree.specs.declared.syntax.Block.{out-Block}
 use Rattle.lua_tree.specs.declared.syntax.Body.{out-Body}
 use Rattle.lua_tree.specs.declared.syntax.Clause.{out-Clause}
 use Rattle.lua_tree.specs.Tree as tree
-use Rattle.lua_tree.specs.View.{exp_of, exps_of, stat_of, block_of, clauses_of, clause_of, targets_of, entries_of, function_of, return_of, block_from, end_from, clauses_from, step_from, else_from}
+use Rattle.lua_tree.specs.View.{exp_of, exps_of, stat_of, block_of, clauses_of, targets_of, entries_of, function_of, return_of, block_from, end_from, step_from, else_from}
 use Rattle.lua_tree.proofs.Views.{exp_of-Nil, exp_of-Bool, exp_of-Int, exp_of-Str, exp_of-Vararg, exp_of-Function, exp_of-Name, exp_of-Paren, exp_of-Field, exp_of-Index, exp_of-Call, exp_of-Method, exp_of-Table, exp_of-Unary, exp_of-Binary, exp_of-Mark, stat_of-Empty, stat_of-Interface, stat_of-Alias, stat_of-Assign, stat_of-Call, stat_of-Break, stat_of-Do, stat_of-While, stat_of-Repeat, stat_of-If, stat_of-NumericFor, stat_of-GenericFor, stat_of-Function, stat_of-Method, stat_of-LocalFunction, stat_of-Local}
 use Rattle.lua_tree.specs.Places.{place_of}
 use Rattle.lua_meaning.specs.Trees.{first_place}
 use Rattle.lua_meaning.specs.Locals.{exp_locals, exps_locals, entries_locals, targets_locals}
-use Rattle.lua_code.specs.Generated.{field_instr, store_instr, stores, iterate_code, step_place, captures_in, inside, begin_locals, target_count}
+use Rattle.lua_code.specs.Generated.{field_instr, stores, iterate_code, captures_in, inside, begin_locals}
 use Rattle.lua_code.specs.Sizes.{function_inner, clauses_size, else_size, block_size, block_slots, exp_size, operator_slots}
 use Rattle.lua_code.specs.declared.code.Instr.TheVariants as instr
 use Rattle.code_gen.specs.Pieces.{between, behind}
-use Rattle.code_gen.specs.Work.{Work, base, is_open, is_loop, skip, put_all, put, free_from, next_from, declaring, leaving, with_exp, with_multi, with_values, with_list, with_function, with_body, at_work, finished, with_scoped, with_block, with_step, with_else, with_stat, with_clauses, with_count_begun, with_each_begun, with_bound}
+use Rattle.code_gen.specs.Work.{Work, base, is_open, skip, put_all, put, free_from, next_from, declaring, leaving, with_exp, with_values, with_list, with_function, with_body, at_work, finished, with_scoped, with_block, with_step, with_else, with_clauses, with_count_begun, with_each_begun, with_bound}
 use Rattle.code_gen.proofs.Forms.Expressions.{nothing_form, truth_form, integer_form, text_form, name_form, field_form, index_form, table_form, paren_form, function_form, unary_form, vararg_form, call_form, method_form, marked_form, list_none, no_step_form, step_form}
-use Rattle.code_gen.proofs.Forms.Statements.{scoped_form, finish_form, returns_form, next_form, empty_form, interface_form, alias_form, define_method_form, assign_form, run_form, leave_form, scope_form, repeat_form, choose_form, no_clause_form, no_else_form, else_form, define_form, declare_function_form, declare_form}
+use Rattle.code_gen.proofs.Forms.Statements.{scoped_form, finish_form, returns_form, next_form, empty_form, interface_form, alias_form, define_method_form, run_form, leave_form, scope_form, repeat_form, choose_form, no_clause_form, no_else_form, else_form, define_form, declare_function_form, declare_form}
 use Rattle.code_gen.proofs.Forms.Functions.{function_written, function_number}
 use Rattle.code_gen.proofs.Forms.Numbers.{binary_written, while_written, assign_written, clause_written, count_written, each_written, count_at, each_at}
 use Rattle.code_gen.proofs.Values.{inner_written, last_written, open_written}

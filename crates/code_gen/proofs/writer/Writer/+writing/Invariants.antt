@@ -1,4 +1,4 @@
-use Rattle.std.proofs.Common.{◌≡◌, ◌-◌, length, drop, map}
+use Rattle.std.proofs.Common.{◌≡◌, drop, map}
 use Rattle.std.specs.Option.{option_map}
 use Rattle.lua_tree.specs.declared.syntax.Block.{out-Block}
 use Rattle.lua_tree.specs.View.{exps_of, clauses_of, stat_of, return_of, block_from, block_of}

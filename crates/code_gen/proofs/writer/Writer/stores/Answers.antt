@@ -1,4 +1,4 @@
-use Rattle.std.proofs.Common.{◌≡◌, ◌+◌, ◌-◌, ap, ◌∙◌, length, take}
+use Rattle.std.proofs.Common.{◌+◌, ◌-◌, ap, ◌∙◌, length, take}
 use Rattle.lua_tree.specs.View.{exp_of, targets_of}
 use Rattle.lua_code.specs.Generated.{stores, store_instr}
 use Rattle.code_gen.specs.Work.{put_all, put}
