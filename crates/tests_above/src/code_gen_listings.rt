@@ -309,37 +309,40 @@ fn module(alloc: Global, stats: List<Stat>, uses: List<Use>) -> Scoped {
     }
 }
 
-/// `print(1 + 2)`
-fn print_sum(alloc: Global) -> Result<Scoped, NoMemory> {
-    let sum = binary(
+/// Two numbers with an operator between them.
+fn of_numbers(
+    alloc: Global,
+    operator: BinaryOperator,
+    left: i64,
+    right: i64,
+) -> Result<Expr, NoMemory> {
+    binary(
         alloc,
-        BinaryOperator::Add,
-        Expr::Int(at(7), 1),
-        Expr::Int(at(11), 2),
-    )?;
-    let stat = print(alloc, 0, one(alloc, sum)?)?;
+        operator,
+        Expr::Int(at(7), left),
+        Expr::Int(at(11), right),
+    )
+}
+
+/// A module that prints this value.
+fn printed(alloc: Global, value: Expr) -> Result<Scoped, NoMemory> {
+    let stat = print(alloc, 0, one(alloc, value)?)?;
     let uses = one(alloc, Use::Lib(LibName::Print))?;
     Ok(module(alloc, one(alloc, stat)?, uses))
 }
 
+/// `print(1 + 2)`
+fn print_sum(alloc: Global) -> Result<Scoped, NoMemory> {
+    let sum = of_numbers(alloc, BinaryOperator::Add, 1, 2)?;
+    printed(alloc, sum)
+}
+
 /// `print(1 < 2 and 3 > 4)`
 fn print_both(alloc: Global) -> Result<Scoped, NoMemory> {
-    let left = binary(
-        alloc,
-        BinaryOperator::Less,
-        Expr::Int(at(7), 1),
-        Expr::Int(at(11), 2),
-    )?;
-    let right = binary(
-        alloc,
-        BinaryOperator::Greater,
-        Expr::Int(at(17), 3),
-        Expr::Int(at(21), 4),
-    )?;
+    let left = of_numbers(alloc, BinaryOperator::Less, 1, 2)?;
+    let right = of_numbers(alloc, BinaryOperator::Greater, 3, 4)?;
     let value = binary(alloc, BinaryOperator::And, left, right)?;
-    let stat = print(alloc, 0, one(alloc, value)?)?;
-    let uses = one(alloc, Use::Lib(LibName::Print))?;
-    Ok(module(alloc, one(alloc, stat)?, uses))
+    printed(alloc, value)
 }
 
 /// `while true do break end`
@@ -351,32 +354,51 @@ fn leave_at_once(alloc: Global) -> Result<Scoped, NoMemory> {
 
 /// `repeat local x = 1 until x`
 fn repeat_once(alloc: Global) -> Result<Scoped, NoMemory> {
-    let local = Stat::Local(at(8), typed(alloc, 14)?, one(alloc, Expr::Int(at(18), 1))?);
-    let inner = block(one(alloc, local)?);
+    let inner = block(one(alloc, local_one(alloc)?)?);
     let stat = Stat::Repeat(at(1), inner, used(alloc, 26, 0)?);
     let uses = one(alloc, Use::Local(0))?;
     Ok(module(alloc, one(alloc, stat)?, uses))
 }
 
+/// `true then` and a block of one statement
+fn when_true(alloc: Global, stat: Stat) -> Result<List<Clause>, NoMemory> {
+    let block = block(one(alloc, stat)?);
+    one(
+        alloc,
+        Clause {
+            condition: Expr::Bool(at(4), true),
+            block,
+        },
+    )
+}
+
 /// `if true then print() else print(1) end`
 fn choose_one(alloc: Global) -> Result<Scoped, NoMemory> {
     let first = print(alloc, 0, List::new(alloc))?;
+    let clauses = when_true(alloc, first)?;
     let second = print(alloc, 1, one(alloc, Expr::Int(at(33), 1))?)?;
-    let clause = Clause {
-        condition: Expr::Bool(at(4), true),
-        block: block(one(alloc, first)?),
-    };
-    let stat = Stat::If(at(1), one(alloc, clause)?, Some(block(one(alloc, second)?)));
+    let otherwise = block(one(alloc, second)?);
+    let stat = Stat::If(at(1), clauses, Some(otherwise));
     let uses = two(alloc, Use::Lib(LibName::Print), Use::Lib(LibName::Print))?;
     Ok(module(alloc, one(alloc, stat)?, uses))
 }
 
-/// `local x = 1 x = x`
-fn store_back(alloc: Global) -> Result<Scoped, NoMemory> {
-    let local = Stat::Local(at(1), typed(alloc, 7)?, one(alloc, Expr::Int(at(11), 1))?);
+/// `local x = 1`
+fn local_one(alloc: Global) -> Result<Stat, NoMemory> {
+    let values = one(alloc, Expr::Int(at(11), 1))?;
+    Ok(Stat::Local(at(1), typed(alloc, 7)?, values))
+}
+
+/// The name of the first use `=` that of the second.
+fn assigned(alloc: Global) -> Result<Stat, NoMemory> {
     let target = one(alloc, used(alloc, 13, 0)?)?;
     let value = one(alloc, used(alloc, 17, 1)?)?;
-    let stats = two(alloc, local, Stat::Assign(at(13), target, value))?;
+    Ok(Stat::Assign(at(13), target, value))
+}
+
+/// `local x = 1 x = x`
+fn store_back(alloc: Global) -> Result<Scoped, NoMemory> {
+    let stats = two(alloc, local_one(alloc)?, assigned(alloc)?)?;
     let uses = two(alloc, Use::Local(0), Use::Local(0))?;
     Ok(module(alloc, stats, uses))
 }
@@ -406,36 +428,42 @@ fn call_print(alloc: Global) -> Result<Scoped, NoMemory> {
     Ok(module(alloc, one(alloc, stat)?, uses))
 }
 
-/// `local x = function(...) return ... end`
-fn give_all(alloc: Global) -> Result<Scoped, NoMemory> {
+/// `function(...) return ... end`
+fn giving_all(alloc: Global) -> Result<Expr, NoMemory> {
+    let result = Return {
+        pos: at(25),
+        values: one(alloc, Expr::Vararg(at(32)))?,
+    };
     let inner = Block {
         stats: List::new(alloc),
-        result: Some(Return {
-            pos: at(25),
-            values: one(alloc, Expr::Vararg(at(32)))?,
-        }),
+        result: Some(result),
     };
     let rest = Rest {
         pos: at(20),
         ty: None,
     };
-    let function = Expr::Function(at(11), body(alloc, List::new(alloc), Some(rest), inner)?);
-    let stat = Stat::Local(at(1), typed(alloc, 7)?, one(alloc, function)?);
+    let body = body(alloc, List::new(alloc), Some(rest), inner)?;
+    Ok(Expr::Function(at(11), body))
+}
+
+/// `local x = function(...) return ... end`
+fn give_all(alloc: Global) -> Result<Scoped, NoMemory> {
+    let values = one(alloc, giving_all(alloc)?)?;
+    let stat = Stat::Local(at(1), typed(alloc, 7)?, values);
     Ok(module(alloc, one(alloc, stat)?, List::new(alloc)))
+}
+
+/// `function(y) x = y end`
+fn storing(alloc: Global) -> Result<Expr, NoMemory> {
+    let inner = block(one(alloc, assigned(alloc)?)?);
+    let body = body(alloc, typed(alloc, 30)?, None, inner)?;
+    Ok(Expr::Function(at(13), body))
 }
 
 /// `local x = 1 local function f(y) x = y end`
 fn store_outside(alloc: Global) -> Result<Scoped, NoMemory> {
-    let local = Stat::Local(at(1), typed(alloc, 7)?, one(alloc, Expr::Int(at(11), 1))?);
-    let target = one(alloc, used(alloc, 33, 0)?)?;
-    let value = one(alloc, used(alloc, 37, 1)?)?;
-    let inner = block(one(alloc, Stat::Assign(at(33), target, value))?);
-    let function = Expr::Function(at(13), body(alloc, typed(alloc, 30)?, None, inner)?);
-    let stats = two(
-        alloc,
-        local,
-        Stat::LocalFunction(at(13), name(alloc, 28)?, function),
-    )?;
+    let function = Stat::LocalFunction(at(13), name(alloc, 28)?, storing(alloc)?);
+    let stats = two(alloc, local_one(alloc)?, function)?;
     let uses = two(alloc, Use::Local(0), Use::Local(2))?;
     Ok(module(alloc, stats, uses))
 }
