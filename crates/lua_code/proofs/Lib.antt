@@ -1,3 +1,4 @@
 mod Ends
 pub mod Faithful
+pub mod Formed
 mod Rows

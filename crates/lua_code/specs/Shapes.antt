@@ -200,16 +200,16 @@ abbrev pub FitsIf : List Instr → List Shape → ℕ → Shape → Option Effec
 FitsIf instrs shapes at shape None = ⊥
 FitsIf instrs shapes at shape (Some effect) = Fits instrs shapes at shape effect
 
--- a function begins with the empty stack and a value in each slot
-abbrev pub first_shape : ℕ → Shape
-first_shape slots = record { stack = []; slots = replicate slots held }
+-- a function begins with the empty stack and a value in each slot, and its first shape wants no more
+abbrev pub Begins : ℕ → List Shape → Type 0
+Begins slots shapes = Meets (slice_get shapes 0) [] (replicate slots held)
 
 pub record IsFunction (code : List Proto) (proto : Proto) : Type 0 where
   pub params : proto.params ≤ proto.slots
   pub places : length proto.places ≡ length proto.code
   pub shapes : List Shape
   pub each : length shapes ≡ length proto.code
-  pub begins : slice_get shapes 0 ≡ Some (first_shape proto.slots)
+  pub begins : Begins proto.slots shapes
   pub agree : (at : ℕ) (i : Instr) (shape : Shape) → slice_get proto.code at ≡ Some i → slice_get shapes at ≡ Some shape
       → IsInRange code proto i × FitsIf proto.code shapes at shape (effect_of code at shape.stack i)
 

@@ -1,9 +1,10 @@
-ghost use Rattle.std.specs.Prelude.{◌≡◌, ℕ, ◌+◌, List, ◌∷◌, Some};
+ghost use Rattle.std.specs.Prelude.{◌≡◌, ℕ, ◌+◌, List, ◌∷◌, length, Some};
 ghost use Rattle.tl_base.specs.declared.place.ModuleKind.{ModuleKind};
 ghost use Rattle.lua_meaning.specs.Programs.{Module, Result};
 ghost use Rattle.lua_code.specs.declared.code.Code.{Code};
 ghost use Rattle.lua_code.specs.Faithful.{IsFaithful};
 ghost use Rattle.lua_code.specs.Generated.{program};
+ghost use Rattle.lua_code.specs.Shapes.{IsWellFormed};
 ghost use Rattle.lua_code.specs.Steps.{run};
 
 /// A run that has ended stays as it ended, however many steps more it is given, and so it has one end. Nothing is computed: the contract is the law.
@@ -17,4 +18,11 @@ pub fn runs_end_once()
 /// modules but that there is one. Nothing is computed: the contract is the law.
 pub fn code_has_the_meaning()
     ensures { (m : Module) (ms : List Module) → IsFaithful (m ∷ ms) (program (m ∷ ms)) }
+{}
+
+/// The code of a program, as the definition of the generator gives it, is well formed: each instruction has a shape that says what stands on the
+/// stack and in the slots before it, all steps agree with the shapes, and all numbers are in range. Nothing is asked of the modules but that there
+/// is one. Nothing is computed: the contract is the law.
+pub fn code_is_well_formed()
+    ensures { (m : Module) (ms : List Module) → IsWellFormed (program (m ∷ ms)) (length (m ∷ ms)) }
 {}

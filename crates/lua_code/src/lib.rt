@@ -10,5 +10,5 @@ mod writing;
 
 pub use code::{Capture, Code, Instr, Proto};
 pub use frames::{Item, Slot};
-pub use laws::{code_has_the_meaning, runs_end_once};
+pub use laws::{code_has_the_meaning, code_is_well_formed, runs_end_once};
 pub use writing::{line, listing};

@@ -1,0 +1,104 @@
+ghost use Rattle.std.specs.Prelude.{◌≡◌, ◌+◌, length, OnOk};
+ghost use Rattle.lua_tree.specs.View.{exp_of};
+ghost use Rattle.lua_code.specs.Generated.{unary_instr as unary_instr_of};
+ghost use Rattle.lua_code.specs.Sizes.{exp_size as exp_size_of};
+ghost use Rattle.code_gen.specs.Work.{put_all};
+ghost use Rattle.code_gen.specs.Pieces.{between as between_them, behind as behind_both};
+
+use crate::sizes::exp_size;
+use crate::sums::sum;
+use crate::writer::Writer;
+use lua_code::Instr;
+use lua_tree::{BinaryOperator, Expr, UnaryOperator};
+use tl_base::{NoMemory, Pos};
+
+/// The instruction of an operator before its operand.
+pub fn unary_instr(operator: UnaryOperator) -> Instr
+    ensures { result ≡ unary_instr_of operator }
+{
+    match operator {
+        UnaryOperator::Not => Instr::Not,
+        UnaryOperator::Length => Instr::Len,
+        UnaryOperator::Negate => Instr::Neg,
+        UnaryOperator::BitNot => Instr::BNot,
+    }
+}
+
+impl<'a> Writer<'a> {
+    /// What stands between the operands of an operation.
+    #[tactic(auto, using(crate::proofs::Put::put_none), unfolding(crate::specs::Work::put_all))]
+    pub fn between(
+        &mut self,
+        operator: BinaryOperator,
+        pos: Pos,
+        slot: u64,
+        right: &Expr,
+    ) -> Result<(), NoMemory>
+        ensures { OnOk result (self.new ≡ put_all (between_them operator pos slot (length self.old.code + exp_size_of (exp_of right.now) + 1)) self.old) }
+    {
+        match operator {
+            BinaryOperator::Or => {
+                let end = sum(sum(self.place(), exp_size(right)?)?, 1)?;
+                self.put(Instr::KeepIf(end), pos)
+            }
+            BinaryOperator::And => {
+                let end = sum(sum(self.place(), exp_size(right)?)?, 1)?;
+                self.put(Instr::KeepIfNot(end), pos)
+            }
+            BinaryOperator::Greater | BinaryOperator::GreaterEqual => {
+                self.put(Instr::SetSlot(slot), pos)
+            }
+            BinaryOperator::Less
+            | BinaryOperator::LessEqual
+            | BinaryOperator::NotEqual
+            | BinaryOperator::Equal
+            | BinaryOperator::BitOr
+            | BinaryOperator::BitXor
+            | BinaryOperator::BitAnd
+            | BinaryOperator::ShiftLeft
+            | BinaryOperator::ShiftRight
+            | BinaryOperator::Concat
+            | BinaryOperator::Add
+            | BinaryOperator::Subtract
+            | BinaryOperator::Multiply
+            | BinaryOperator::Divide
+            | BinaryOperator::Modulo => Ok(()),
+        }
+    }
+
+    /// What stands behind both operands of an operation.
+    #[tactic(auto, unfolding(crate::specs::Work::put_all))]
+    pub fn behind(&mut self, operator: BinaryOperator, pos: Pos, slot: u64) -> Result<(), NoMemory>
+        ensures { OnOk result (self.new ≡ put_all (behind_both operator pos slot) self.old) }
+    {
+        match operator {
+            BinaryOperator::Or | BinaryOperator::And => Ok(()),
+            BinaryOperator::Less => self.put(Instr::Lt, pos),
+            BinaryOperator::Greater => {
+                self.put(Instr::GetSlot(slot), pos)?;
+                self.put(Instr::Lt, pos)
+            }
+            BinaryOperator::LessEqual => self.put(Instr::Le, pos),
+            BinaryOperator::GreaterEqual => {
+                self.put(Instr::GetSlot(slot), pos)?;
+                self.put(Instr::Le, pos)
+            }
+            BinaryOperator::NotEqual => {
+                self.put(Instr::Eq, pos)?;
+                self.put(Instr::Not, pos)
+            }
+            BinaryOperator::Equal => self.put(Instr::Eq, pos),
+            BinaryOperator::BitOr => self.put(Instr::BOr, pos),
+            BinaryOperator::BitXor => self.put(Instr::BXor, pos),
+            BinaryOperator::BitAnd => self.put(Instr::BAnd, pos),
+            BinaryOperator::ShiftLeft => self.put(Instr::Shl, pos),
+            BinaryOperator::ShiftRight => self.put(Instr::Shr, pos),
+            BinaryOperator::Concat => self.put(Instr::Concat, pos),
+            BinaryOperator::Add => self.put(Instr::Add, pos),
+            BinaryOperator::Subtract => self.put(Instr::Sub, pos),
+            BinaryOperator::Multiply => self.put(Instr::Mul, pos),
+            BinaryOperator::Divide => self.put(Instr::IDiv, pos),
+            BinaryOperator::Modulo => self.put(Instr::Mod, pos),
+        }
+    }
+}
