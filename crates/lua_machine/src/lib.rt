@@ -17,6 +17,8 @@ mod running;
 mod state;
 mod store;
 mod sums;
+#[cfg(test)]
+mod tests;
 mod tracing;
 
 pub use events::Event;
