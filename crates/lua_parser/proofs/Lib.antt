@@ -4,4 +4,6 @@ pub mod Viability
 pub mod Completeness
 pub mod Laws
 pub mod Heads
+pub mod Goings
+pub mod Starts
 pub mod TypeSteps

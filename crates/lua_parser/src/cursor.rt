@@ -5,6 +5,7 @@ ghost use Rattle.lua_parser.specs.Outcomes.{head_atom, head_is, head_pos, head_n
 
 use lua_lexer::{Keyword, Symbol, Token, TokenKind};
 use lua_tree::{BinaryOperator, Name, UnaryOperator};
+use crate::limits::Limits;
 use std::alloc::Global;
 use std::marker::Model;
 use tl_base::{Bytes, NoMemory, Pos};
@@ -15,7 +16,7 @@ pub(crate) enum Stop {
     NoMemory,
     /// No spelling goes on with the first token that is left.
     Unexpected,
-    /// Too many constructs are open.
+    /// The first token that is left is inside too many constructs, or ends an expression that is too high.
     Deep,
     /// A form that isn't read yet.
     NotBuilt,
@@ -33,12 +34,13 @@ impl From<NoMemory> for Stop {
 
 /// The tokens that are left of a source. Contracts see their words.
 pub(crate) struct Cursor<'a> {
-    source: &'a [u8],
-    rest: &'a [Token],
+    pub(crate) source: &'a [u8],
+    pub(crate) rest: &'a [Token],
     /// The same from the token on that was taken last.
     last: &'a [Token],
     /// The same from the token on that was taken before that one.
     before: &'a [Token],
+    pub(crate) limits: Limits,
 }
 
 impl<'a> Model for Cursor<'a> {
@@ -54,6 +56,7 @@ impl<'a> Cursor<'a> {
         Cursor {
             source,
             rest: tokens,
+            limits: Limits::new(),
             last: tokens,
             before: tokens,
         }

@@ -2,10 +2,21 @@
 #![tactic(auto)]
 
 mod annotations;
+mod blocks;
 mod cursor;
+mod declarations;
 mod expressions;
+mod frames;
+mod limits;
 mod operators;
+mod parsing;
+mod prefixes;
 mod reader;
+mod stack;
+mod starters;
+mod statements;
+mod tables;
+mod taking;
 mod theorems;
 mod type_parts;
 mod types;
