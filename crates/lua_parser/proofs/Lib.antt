@@ -7,3 +7,4 @@ pub mod Heads
 pub mod Goings
 pub mod Starts
 pub mod TypeSteps
+pub mod Parsings

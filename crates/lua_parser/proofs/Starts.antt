@@ -13,9 +13,9 @@ use Rattle.lua_lexer.specs.declared.token.Keyword.TheVariants as w
 use Rattle.lua_lexer.specs.declared.token.Symbol.TheVariants as s
 use Rattle.lua_parser.specs.Words.{Word, Words, WordKind, Mark, mark, marked, symbol, keyword, named, key, sign, finish}
 use Rattle.lua_parser.specs.Grammar.Types.{opens}
-use Rattle.lua_parser.specs.Grammar.Syntax.{Enclosed, Target}
+use Rattle.lua_parser.specs.Grammar.Syntax.{Enclosed, Target, block}
 use Rattle.lua_parser.specs.Machine.Plan.{Item, Plan, Reply, stuck, ends, takes, done, want, want_name, read, onward}
-use Rattle.lua_parser.specs.Machine.Steps.{is_key, is_typed, if_name, start_stat, start_exprs, or_ends, going, block_step}
+use Rattle.lua_parser.specs.Machine.Steps.{is_key, is_mark, is_typed, if_name, start_stat, start_exprs, or_ends, going, block_step}
 use Rattle.lua_parser.specs.Machine.Run.{run}
 use Rattle.lua_parser.specs.declared.starters.Start.{Start}
 use Rattle.lua_parser.specs.declared.starters.Start.TheVariants as starts
@@ -28,9 +28,9 @@ use Rattle.lua_parser.specs.declared.reader.Mode.TheVariants as mode
 use Rattle.lua_parser.specs.declared.reader.Frame.TheVariants as frame
 use Rattle.lua_parser.specs.declared.reader.Within.TheVariants as within
 use Rattle.lua_parser.specs.declared.reader.ListOf.TheVariants as list_of
-use Rattle.lua_parser.specs.Outcomes.{head_pos, head_opener, opener_of, starter_of, head_starter, is_starter, head_is_name}
+use Rattle.lua_parser.specs.Outcomes.{head_pos, head_is, head_opener, opener_of, starter_of, head_starter, is_starter, head_is_name}
 use Rattle.lua_parser.specs.Stacks.{OnStat, OnExpr, OnReturn, framed, listed, returned, onto, ended, is_outermost, stated, plan_at, stat_after}
-use Rattle.lua_parser.proofs.Completeness.Plans.{on, read_on, onward_assoc, if_false, if_true}
+use Rattle.lua_parser.proofs.Completeness.Plans.{on, after, read_on, onward_assoc, if_false, if_true}
 
 start_in : Opener → Start → Start
 start_in (openers.Plain x) y = x
@@ -356,3 +356,15 @@ behind_goes kind k false x n (y ∷ us) h = refl
 pub plain_length : (ts new : Words) (x : Start) → head_opener ts ≡ openers.Plain x → new ≡ drop 1 ts → length ts ≡ length new + 1
 plain_length [] new x h e = cc
 plain_length (y ∷ us) new x h e = ap (λ z. length z + 1) (sym e)
+
+-- the end of the file ends the outermost block
+pub finish_goes : (kind : ModuleKind) (os : List Outer) (d : List Stat × Option Return × ℕ) (ts new : Words) (p : Pos) → os ≡ [] → ts ≡ marked finish p ∷ new → new ≡ [] → run kind (ended os d) ts ≡ Ok (block d.0 d.1)
+finish_goes kind os d ts new p e h l = ap (λ z. run kind (ended z d) ts) e ∙ ap (run kind (ended [] d)) (h ∙ ap (λ z. marked finish p ∷ z) l)
+
+pub finish_stuck : (kind : ModuleKind) (os : List Outer) (d : List Stat × Option Return × ℕ) (ts new : Words) (p : Pos) → os ≡ [] → ts ≡ marked finish p ∷ new → (new ≡ [] → ⊥) → run kind (ended os d) ts ≡ Err new
+finish_stuck kind os d ts [] p e h l = absurd (l refl)
+finish_stuck kind os d ts (x ∷ us) p e h l = ap (λ z. run kind (ended z d) ts) e ∙ ap (run kind (ended [] d)) h
+
+pub finish_missing : (kind : ModuleKind) (os : List Outer) (d : List Stat × Option Return × ℕ) (ts : Words) → os ≡ [] → head_is finish ts ≡ false → run kind (ended os d) ts ≡ Err ts
+finish_missing kind os d [] e h = ap (λ z. run kind (ended z d) []) e
+finish_missing kind os d (x ∷ us) e h = ap (λ z. run kind (ended z d) (x ∷ us)) e ∙ ap (after kind x us) (if_false (is_mark finish x.kind) _ _ h)

@@ -5,4 +5,4 @@ pub mod Outcomes
 pub mod Stacks
 pub mod TypeReadings
 pub mod Readings
-pub mod TypeReadings
+pub mod Parsing

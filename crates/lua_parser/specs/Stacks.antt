@@ -19,7 +19,7 @@ use Rattle.lua_lexer.specs.declared.token.Keyword.TheVariants as w
 use Rattle.lua_lexer.specs.declared.token.Symbol.TheVariants as s
 use Rattle.lua_parser.specs.Words.{Words, key, sign, finish, keyword}
 use Rattle.lua_parser.specs.Grammar.Levels.{level, unary_level}
-use Rattle.lua_parser.specs.Grammar.Syntax.{Form, Target, Called, Enclosed, place, clause, block, returns, body, typed}
+use Rattle.lua_parser.specs.Grammar.Syntax.{Form, Target, Called, Enclosed, place, clause, block, returns, body, typed, rest_at}
 use Rattle.lua_parser.specs.Machine.Plan.{Item, Plan, done, want, want_name, read, onward}
 use Rattle.lua_parser.specs.Machine.Steps.{operand, suffix, block_then, is_typed}
 use Rattle.lua_parser.specs.Machine.Run.{run}
@@ -44,6 +44,7 @@ use Rattle.lua_parser.specs.declared.reader.Frame.{Frame}
 use Rattle.lua_parser.specs.declared.reader.Frame.TheVariants as frame
 use Rattle.lua_parser.specs.declared.reader.Held.{Held}
 use Rattle.lua_parser.specs.declared.reader.Signature.{Signature}
+use Rattle.lua_parser.specs.declared.reader.Header.{Header}
 use Rattle.lua_parser.specs.declared.reader.BodyOf.{BodyOf}
 use Rattle.lua_parser.specs.declared.reader.BodyOf.TheVariants as body_of
 use Rattle.lua_parser.specs.declared.reader.BlockOf.{BlockOf}
@@ -345,3 +346,13 @@ Reaches p r (Err e) r' = Unit {0}
 -- Whether a name stands where the name of a type would, behind the first word of a statement.
 abbrev pub is_type_stat : Reader → Bool
 is_type_stat r = is_outermost r.outer && (is_typed r.kind && head_is_name r.cursor)
+
+-- parameters behind these: behind `...`, from a parameter on, and behind one
+abbrev pub rest_plan : Header → Pos → Reader → Plan Block
+rest_plan h p r = read Item.annotation λ a. want (sign s.CloseParen) λ _. signed h.of r.uses (on_stat r) (on_expr r) (onto h.params [], Some (rest_at p a))
+
+abbrev pub param_plan : Header → Reader → Plan Block
+param_plan h r = typed_plan λ x. read Item.more_params λ ps. signed h.of r.uses (on_stat r) (on_expr r) (onto h.params (x ∷ ps.0), ps.1)
+
+abbrev pub more_params_plan : Header → Reader → Plan Block
+more_params_plan h r = read Item.more_params λ ps. signed h.of r.uses (on_stat r) (on_expr r) (onto h.params ps.0, ps.1)

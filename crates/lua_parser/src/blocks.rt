@@ -20,8 +20,8 @@ impl<'a> Reader<'a> {
         ensures { GoesBy (opened of self.old.uses (on_stat self.old) (on_expr self.old)) (weight self.old (mode.Operand 0) + 2) self.old result self.new }
     {
         let alloc = self.alloc;
-        let stats = replace(&mut self.stats, Stack::new(alloc));
-        let frames = replace(&mut self.frames, Stack::new(alloc));
+        let stats = self.stats.take(alloc);
+        let frames = self.frames.take(alloc);
         self.outer.push(Outer {
             of,
             stats,
@@ -48,7 +48,7 @@ impl<'a> Reader<'a> {
         ensures { Goes self.old (mode.Ended last) result self.new }
     {
         let Some(outer) = self.outer.pop() else {
-            return Err(Stop::NotBuilt);
+            return Err(Stop::NoMemory);
         };
         let Outer {
             of,

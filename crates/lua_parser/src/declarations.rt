@@ -1,6 +1,6 @@
 ghost use Rattle.std.specs.Prelude.{◌≡◌, ◌+◌, ◌<◌, [], ◌∷◌, length};
 ghost use Rattle.lua_parser.specs.Machine.Plan.{Item, want_name, read};
-ghost use Rattle.lua_parser.specs.Stacks.{Goes, GoesBy, begun_stat, bodied, signed, local_of, stat_of, iterated, ReadsTyped, ReadsAnnotation, onto, on_stat, on_expr, weight};
+ghost use Rattle.lua_parser.specs.Stacks.{Goes, GoesBy, begun_stat, bodied, signed, local_of, stat_of, iterated, ReadsTyped, ReadsAnnotation, rest_plan, param_plan, more_params_plan, onto, on_stat, on_expr, weight};
 ghost use Rattle.lua_parser.specs.declared.starters.Start.TheVariants as starts;
 ghost use Rattle.lua_parser.specs.declared.reader.Mode.TheVariants as mode;
 
@@ -127,18 +127,39 @@ impl<'a> Reader<'a> {
         }
         let pos = self.cursor.pos();
         if self.cursor.take(Symbol::Dots)? {
-            let ty = self.annotation()?;
-            self.cursor.need(Symbol::CloseParen)?;
-            return self.signed(header, Some(Rest { pos, ty }));
+            return self.rest(header, pos);
         }
+        self.param(header)
+    }
+
+    /// Reads what stands behind the `...` of parameters.
+    fn rest(&mut self, header: Header, pos: Pos) -> Result<Mode, Stop>
+        ensures { GoesBy (rest_plan header pos self.old) (weight self.old (mode.Operand 0)) self.old result self.new }
+    {
+        let ty = self.annotation()?;
+        self.cursor.need(Symbol::CloseParen)?;
+        self.signed(header, Some(Rest { pos, ty }))
+    }
+
+    /// Reads a parameter and what stands behind it.
+    fn param(&mut self, header: Header) -> Result<Mode, Stop>
+        ensures { GoesBy (param_plan header self.old) (weight self.old (mode.Operand 0)) self.old result self.new }
+    {
         let typed = self.typed()?;
         let mut all = header;
         all.params.push(typed)?;
+        self.more_params(all)
+    }
+
+    /// Reads what stands behind a parameter.
+    fn more_params(&mut self, header: Header) -> Result<Mode, Stop>
+        ensures { GoesBy (more_params_plan header self.old) (weight self.old (mode.Operand 0)) self.old result self.new }
+    {
         if self.cursor.take(Symbol::Comma)? {
-            return Ok(Mode::Params(all, false));
+            return Ok(Mode::Params(header, false));
         }
         self.cursor.need(Symbol::CloseParen)?;
-        self.signed(all, None)
+        self.signed(header, None)
     }
 
     /// Begins the block of a body behind its parameters.

@@ -8,7 +8,7 @@ ghost use Rattle.lua_parser.specs.declared.starters.Starter.TheVariants as start
 
 use crate::cursor::Stop;
 use crate::operators::{left_level, level, right_level};
-use crate::reader::{Form, Frame, Held, Mode, Reader, Table, TableOf, Within, place};
+use crate::reader::{BodyOf, Form, Frame, Held, Mode, Reader, Table, TableOf, Within, place};
 use crate::stack::Stack;
 use crate::starters::Starter;
 use lua_tree::{BinaryOperator, Expr, UnaryOperator};
@@ -50,7 +50,7 @@ impl<'a> Reader<'a> {
             Starter::Int(number) => self.constant(least, Expr::Int(pos, number)),
             Starter::Text => self.quoted(least),
             Starter::Name => self.named(least),
-            Starter::Function => Err(Stop::NotBuilt),
+            Starter::Function => self.function(least),
             Starter::OpenParen => self.parenthesis(least),
             Starter::OpenBrace => self.table(least),
             Starter::Unary(operator) => self.unary(least, operator),
@@ -111,6 +111,16 @@ impl<'a> Reader<'a> {
         self.cursor.open();
         self.push(Frame::Unary(least, pos, operator), 0, depth)?;
         Ok(Mode::Operand(UNARY_LEVEL))
+    }
+
+    /// Takes the `function` that the operand begins with.
+    fn function(&mut self, least: u8) -> Result<Mode, Stop>
+        requires { head_starter self.old.cursor ≡ starts.Function }
+        ensures { Goes self.old (mode.Operand least) result self.new }
+    {
+        let pos = self.cursor.pos();
+        self.cursor.pass()?;
+        self.body(BodyOf::Operand(least, pos))
     }
 
     /// Takes the parenthesis that the operand begins with.

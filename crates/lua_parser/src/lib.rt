@@ -21,6 +21,7 @@ mod theorems;
 mod type_parts;
 mod types;
 
+pub use parsing::parse;
 pub use theorems::{
     at_most_one_fault, at_most_one_tree, no_fault_in_a_tree, one_code, tree_or_fault,
 };

@@ -1,8 +1,11 @@
-ghost use Rattle.std.specs.Prelude.{◌≡◌, ◌<◌, [], length, IfOk, IfErr};
+ghost use Rattle.std.specs.Prelude.{◌≡◌, ◌<◌, [], length, Err, IfOk, IfErr};
 ghost use Rattle.lua_tree.specs.declared.syntax.Block.{Block};
 ghost use Rattle.lua_parser.specs.Words.{Words, words_of};
 ghost use Rattle.lua_parser.specs.Grammar.Syntax.{SpellsChunk};
-ghost use Rattle.lua_parser.specs.Grammar.Fault.{FaultAt};
+ghost use Rattle.lua_parser.specs.Parsing.{IsModule, IsRefused, IsFailure, IsTree, IsRefusal, GoesPast};
+ghost use Rattle.lua_parser.specs.Machine.Run.{run};
+ghost use Rattle.tl_base.specs.declared.refusal.Refusal.{Refusal};
+ghost use Rattle.tl_base.specs.declared.place.ModuleKind.TheVariants.{Typed as typed};
 ghost use Rattle.lua_parser.specs.Machine.Run.{module_plan};
 ghost use Rattle.lua_parser.specs.Stacks.{GoesBy, Steps, Reaches, plan, weight};
 ghost use Rattle.lua_parser.specs.declared.reader.Mode.TheVariants as mode;
@@ -12,10 +15,9 @@ use crate::cursor::{Cursor, Stop};
 use crate::reader::{Mode, Reader};
 use crate::stack::Stack;
 use lua_lexer::Token;
-use lua_tree::{Block, Return};
+use lua_tree::{Block, Chunk, Return};
 use std::alloc::Global;
-use std::mem::replace;
-use tl_base::ModuleKind;
+use tl_base::{Failure, List, ModuleKind, NoMemory, Refusal, RefusalCode};
 
 /// What one step of the reading gives.
 #[derive(Drop)]
@@ -27,7 +29,11 @@ pub(crate) enum Step {
 
 impl<'a> Reader<'a> {
     /// A reader at the beginning of a module.
-    fn new(alloc: Global, kind: ModuleKind, source: &'a [u8], tokens: &'a [Token]) -> Reader<'a> {
+    fn new(alloc: Global, kind: ModuleKind, source: &'a [u8], tokens: &'a [Token]) -> Reader<'a>
+        ensures kind { result.kind ≡ kind }
+        ensures words { result.cursor ≡ words_of source.now tokens.now }
+        ensures plan { plan result mode.Block ≡ module_plan }
+    {
         Reader {
             alloc,
             kind,
@@ -74,8 +80,10 @@ impl<'a> Reader<'a> {
         ensures { Steps self.old (mode.Ended last) result self.new }
     {
         self.cursor.need_end()?;
-        let none = Stack::new(self.alloc);
-        let stats = replace(&mut self.stats, none);
+        if !self.cursor.is_over() {
+            return Err(Stop::Unexpected);
+        }
+        let stats = self.stats.take(self.alloc);
         Ok(Step::Done(block(stats.into_list(), last)))
     }
 
@@ -93,5 +101,77 @@ impl<'a> Reader<'a> {
                 Step::Done(block) => return Ok(block),
             }
         }
+    }
+}
+
+/// The tree of a module's tokens, which are those of `source`, or the refusal at the first token with which no spelling goes on: P2 for `/` and `^`, P3 for
+/// `goto` and `::`, P5 for a token that would go on in a typed module, else P1. `module` is the file's number, which the tokens' places bear. A module with
+/// more than 200 constructs in one another, or with an expression or a type that is more than 1000 high, is answered as want of memory, and so are
+/// tokens whose last isn't `End`.
+pub fn parse(alloc: Global, module: u32, kind: ModuleKind, source: &[u8], tokens: &List<Token>) -> Result<Chunk, Failure>
+    ensures tree { IfOk result (λ c. IsModule «module» kind (words_of source.now tokens.now) c) }
+    ensures refused { IfErr result (λ e. IsFailure kind (words_of source.now tokens.now) e) }
+    ensures only_tree { (b : Block) → SpellsChunk kind b (words_of source.now tokens.now) → IsTree b result }
+    ensures only_refusal { (r : Refusal) → IsRefused kind (words_of source.now tokens.now) r → IsRefusal r result }
+{
+    let mut reader = Reader::new(alloc, kind, source, tokens.as_slice());
+    match reader.read(Mode::Block) {
+        Ok(body) => Ok(Chunk { module, kind, body }),
+        Err(Stop::Unexpected) => Err(fault(
+            alloc,
+            kind,
+            source,
+            tokens.as_slice(),
+            &reader.cursor,
+        )),
+        Err(_) => Err(Failure::NoMemory),
+    }
+}
+
+/// The refusal at the first token that is left where reading stops.
+fn fault(
+    alloc: Global,
+    kind: ModuleKind,
+    source: &[u8],
+    tokens: &[Token],
+    left: &Cursor<'_>,
+) -> Failure
+    requires { run kind module_plan (words_of source.now tokens.now) ≡ Err left.now }
+    ensures { IsFailure kind (words_of source.now tokens.now) result }
+{
+    if left.is_over() {
+        return Failure::NoMemory;
+    }
+    let pos = left.pos();
+    if let Some(code) = left.foreign() {
+        return Failure::Refused(Refusal { code, pos });
+    }
+    match goes_on_typed(alloc, source, tokens, left.len()) {
+        Ok(true) => Failure::Refused(Refusal {
+            code: RefusalCode::P5,
+            pos,
+        }),
+        Ok(false) => Failure::Refused(Refusal {
+            code: RefusalCode::P1,
+            pos,
+        }),
+        Err(NoMemory) => Failure::NoMemory,
+    }
+}
+
+/// Whether the reading of a typed module leaves fewer tokens than these.
+fn goes_on_typed(
+    alloc: Global,
+    source: &[u8],
+    tokens: &[Token],
+    left: usize,
+) -> Result<bool, NoMemory>
+    ensures { IfOk result (λ goes. GoesPast left (run typed module_plan (words_of source.now tokens.now)) goes) }
+{
+    let mut reader = Reader::new(alloc, ModuleKind::Typed, source, tokens);
+    match reader.read(Mode::Block) {
+        Ok(_) => Ok(true),
+        Err(Stop::Unexpected) => Ok(reader.cursor.len() < left),
+        Err(_) => Err(NoMemory),
     }
 }

@@ -174,6 +174,7 @@ pub(crate) struct Outer {
 }
 
 /// Where a module is being read, and what is open there.
+#[derive(Drop)]
 pub(crate) struct Reader<'a> {
     pub(crate) alloc: Global,
     pub(crate) kind: ModuleKind,

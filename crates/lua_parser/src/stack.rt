@@ -3,6 +3,7 @@ ghost use Rattle.lua_parser.specs.Stacks.{onto};
 
 use std::alloc::Global;
 use std::marker::Model;
+use std::mem::replace;
 use tl_base::{List, NoMemory};
 
 /// What was put away, the last of it first. Contracts see it as a list.
@@ -41,6 +42,14 @@ impl<T> Stack<T> {
     {
         let Stack { items } = self;
         List::from_vec(items)
+    }
+
+    /// All elements, which are no longer here.
+    pub(crate) fn take(&mut self, alloc: Global) -> Stack<T>
+        ensures taken { result ≡ self.old }
+        ensures left { self.new ≡ [] }
+    {
+        replace(self, Stack::new(alloc))
     }
 
     pub(crate) fn is_empty(&self) -> bool
