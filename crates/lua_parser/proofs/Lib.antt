@@ -8,3 +8,4 @@ pub mod Goings
 pub mod Starts
 pub mod TypeSteps
 pub mod Parsings
+pub mod Closings

@@ -79,12 +79,12 @@ refused_once {q = q} {r = r} f g =
     let d = same_front f.front (f.word ∷ f.rest) g.front (g.word ∷ g.rest) (sym f.whole ∙ g.whole) e (ap (λ z. length z) e) in
     refusal_once q r (one_code (code_at g.front (g.word ∷ g.rest) d e f.code) g.code) (f.pos ∙ ap (λ z. z.pos) w ∙ sym g.pos)
 
-pub only_tree : {kind : ModuleKind} {ts : Words} {m : ℕ} {b : Block} (r : Result Chunk Failure) → IfOk r (λ c. IsModule m kind ts c) → IfErr r (λ e. IsFailure kind ts e) → SpellsChunk kind b ts → IsTree b r
-only_tree (Ok c) h k d = one_tree h.2 d
-only_tree (Err failure.NoMemory) h k d = tt
-only_tree (Err (failure.Refused r)) h k d = no_tree_at_fault d (fault_of k)
+pub only_tree : (m : ℕ) {kind : ModuleKind} {ts : Words} {b : Block} (r : Result Chunk Failure) → IfOk r (λ c. IsModule m kind ts c) → IfErr r (λ e. IsFailure kind ts e) → SpellsChunk kind b ts → IsTree b r
+only_tree m (Ok c) h k d = one_tree h.2 d
+only_tree m (Err failure.NoMemory) h k d = tt
+only_tree m (Err (failure.Refused r)) h k d = no_tree_at_fault d (fault_of k)
 
-pub only_refusal : {kind : ModuleKind} {ts : Words} {m : ℕ} {q : Refusal} (r : Result Chunk Failure) → IfOk r (λ c. IsModule m kind ts c) → IfErr r (λ e. IsFailure kind ts e) → IsRefused kind ts q → IsRefusal q r
-only_refusal (Ok c) h k f = no_tree_at_fault h.2 (fault_of f)
-only_refusal (Err failure.NoMemory) h k f = tt
-only_refusal (Err (failure.Refused r)) h k f = refused_once k f
+pub only_refusal : (m : ℕ) {kind : ModuleKind} {ts : Words} {q : Refusal} (r : Result Chunk Failure) → IfOk r (λ c. IsModule m kind ts c) → IfErr r (λ e. IsFailure kind ts e) → IsRefused kind ts q → IsRefusal q r
+only_refusal m (Ok c) h k f = no_tree_at_fault h.2 (fault_of f)
+only_refusal m (Err failure.NoMemory) h k f = tt
+only_refusal m (Err (failure.Refused r)) h k f = refused_once k f

@@ -1,5 +1,5 @@
 -- How statements begin, as equations between runs.
-use Rattle.std.proofs.Common.{◌≡◌, ℕ, ◌+◌, Bool, true, false, List, [], ◌∷◌, Option, Some, None, Result, Ok, Err, drop, refl, sym, ap, ◌∙◌, subst}
+use Rattle.std.proofs.Common.{◌≡◌, ℕ, ◌+◌, Bool, true, false, List, [], ◌∷◌, Option, Some, None, Result, Ok, Err, drop, refl, sym, ap, ◌∙◌, subst, arith}
 use Rattle.std.specs.Prelude.{if◌then◌else◌, ◌&&◌, length}
 use Rattle.tl_base.specs.declared.place.Pos.{Pos}
 use Rattle.tl_base.specs.declared.place.ModuleKind.{ModuleKind}
@@ -298,10 +298,10 @@ module _ (kind : ModuleKind) (os : List Outer) (ss : List Stat) (hs : List Held)
 
   pub enclosed_goes : (r : OnReturn) (f : OnExpr) (ts new : Words) (p : Pos) → ts ≡ symbol s.OpenParen (head_pos ts) ∷ new → p ≡ head_pos ts → c ≡ false
       → run kind (read (Item.an_expr 1 n) (framed (frame.Paren within.Statement p) (stated os ss) r f)) new ≡ run kind (plan_at os ss hs n c mode.Block) ts
-  enclosed_goes r f ts new p e h d =
+  enclosed_goes r f ts new p b h d =
       ap (λ z. run kind (read (Item.an_expr 1 n) (framed (frame.Paren within.Statement z) (stated os ss) r f)) new) h
       ∙ stat_goes (symbol s.OpenParen (head_pos ts)) new (read (Item.an_expr 1 n) λ a. want (sign s.CloseParen) λ _. read (Item.rest_of_stat Enclosed (e.Paren (head_pos ts) a.0) a.1) done) refl (ap (λ z. z && true) d) refl
-      ∙ ap (run kind (plan_at os ss hs n c mode.Block)) (sym e)
+      ∙ ap (run kind (plan_at os ss hs n c mode.Block)) (sym b)
 
   pub return_goes : (ts new : Words) (p : Pos) → ts ≡ keyword w.Return (head_pos ts) ∷ new → p ≡ head_pos ts
       → run kind (read (Item.return_values n) (returned os ss p)) new ≡ run kind (plan_at os ss hs n c mode.Block) ts
@@ -355,7 +355,7 @@ behind_goes kind k false x n (y ∷ us) h = refl
 
 pub plain_length : (ts new : Words) (x : Start) → head_opener ts ≡ openers.Plain x → new ≡ drop 1 ts → length ts ≡ length new + 1
 plain_length [] new x h e = cc
-plain_length (y ∷ us) new x h e = ap (λ z. length z + 1) (sym e)
+plain_length (y ∷ us) new x h e = let d : length new ≡ length us = ap (λ z. length z) e in omega (arith, d)
 
 -- the end of the file ends the outermost block
 pub finish_goes : (kind : ModuleKind) (os : List Outer) (d : List Stat × Option Return × ℕ) (ts new : Words) (p : Pos) → os ≡ [] → ts ≡ marked finish p ∷ new → new ≡ [] → run kind (ended os d) ts ≡ Ok (block d.0 d.1)

@@ -11,7 +11,6 @@ use crate::reader::{BlockOf, BodyOf, Frame, Mode, Outer, Reader, Signature};
 use crate::stack::Stack;
 use lua_lexer::{Keyword, Symbol};
 use lua_tree::{Block, Body, Clause, Expr, Return, Stat};
-use std::mem::replace;
 use tl_base::{Boxed, List, Pos};
 
 impl<'a> Reader<'a> {
@@ -43,8 +42,7 @@ impl<'a> Reader<'a> {
 
     /// What a whole block becomes that stands in another.
     pub(crate) fn ended(&mut self, last: Option<Return>) -> Result<Mode, Stop>
-        requires words { 0 < length self.old.cursor }
-        requires inner { self.old.outer ≡ [] → ⊥ }
+        requires { 0 < length self.old.cursor }
         ensures { Goes self.old (mode.Ended last) result self.new }
     {
         let Some(outer) = self.outer.pop() else {
@@ -56,9 +54,11 @@ impl<'a> Reader<'a> {
             frames,
             depth,
         } = outer;
-        let inner = replace(&mut self.stats, stats);
+        let alloc = self.alloc;
+        let inner = self.stats.take(alloc).into_list();
+        self.stats = stats;
         self.frames = frames;
-        self.end_block(of, inner.into_list(), last, depth)
+        self.end_block(of, inner, last, depth)
     }
 
     /// What a whole block becomes that is for this.

@@ -7,7 +7,7 @@ ghost use Rattle.lua_parser.specs.Machine.Run.{run};
 ghost use Rattle.tl_base.specs.declared.refusal.Refusal.{Refusal};
 ghost use Rattle.tl_base.specs.declared.place.ModuleKind.TheVariants.{Typed as typed};
 ghost use Rattle.lua_parser.specs.Machine.Run.{module_plan};
-ghost use Rattle.lua_parser.specs.Stacks.{GoesBy, Steps, Reaches, plan, weight};
+ghost use Rattle.lua_parser.specs.Stacks.{Goes, Steps, Reaches, plan, weight};
 ghost use Rattle.lua_parser.specs.declared.reader.Mode.TheVariants as mode;
 
 use crate::blocks::block;
@@ -51,27 +51,53 @@ impl<'a> Reader<'a> {
         requires { 0 < length self.old.cursor }
         ensures { Steps self.old mode result self.new }
     {
-        let next = match mode {
-            Mode::Block => self.block()?,
-            Mode::Operand(least) => self.operand(least)?,
-            Mode::Operation(least, most, left) => self.operation(least, most, left)?,
-            Mode::Prefix(within, form, expr) => self.prefix(within, form, expr)?,
-            Mode::Value(expr) => self.value(expr)?,
-            Mode::Entries(table) => self.entries(table)?,
-            Mode::BehindEntry(table) => self.behind_entry(table)?,
-            Mode::Locals(pos, names) => self.locals(pos, names)?,
-            Mode::Names(pos, names, depth) => self.names(pos, names, depth)?,
-            Mode::Path(pos, target) => self.path(pos, target)?,
-            Mode::Params(header, may_end) => self.params(header, may_end)?,
-            Mode::Statement(stat) => self.statement(stat)?,
-            Mode::Ended(last) => {
-                if self.outer.is_empty() {
-                    return self.finish(last);
-                }
-                self.ended(last)?
-            }
-        };
+        match mode {
+            Mode::Ended(last) => self.leave(last),
+            other => self.go_on(other),
+        }
+    }
+
+    /// Reads the end of a block.
+    fn leave(&mut self, last: Option<Return>) -> Result<Step, Stop>
+        requires { 0 < length self.old.cursor }
+        ensures { Steps self.old (mode.Ended last) result self.new }
+    {
+        if self.outer.is_empty() {
+            return self.finish(last);
+        }
+        let next = self.ended(last)?;
         Ok(Step::Next(next))
+    }
+
+    /// Reads on.
+    fn go_on(&mut self, mode: Mode) -> Result<Step, Stop>
+        requires { 0 < length self.old.cursor }
+        ensures { Steps self.old mode result self.new }
+    {
+        let next = self.next(mode)?;
+        Ok(Step::Next(next))
+    }
+
+    /// What is read next.
+    fn next(&mut self, mode: Mode) -> Result<Mode, Stop>
+        requires { 0 < length self.old.cursor }
+        ensures { Goes self.old mode result self.new }
+    {
+        match mode {
+            Mode::Block => self.block(),
+            Mode::Operand(least) => self.operand(least),
+            Mode::Operation(least, most, left) => self.operation(least, most, left),
+            Mode::Prefix(within, form, expr) => self.prefix(within, form, expr),
+            Mode::Value(expr) => self.value(expr),
+            Mode::Entries(table) => self.entries(table),
+            Mode::BehindEntry(table) => self.behind_entry(table),
+            Mode::Locals(pos, names) => self.locals(pos, names),
+            Mode::Names(pos, names, depth) => self.names(pos, names, depth),
+            Mode::Path(pos, target) => self.path(pos, target),
+            Mode::Params(header, may_end) => self.params(header, may_end),
+            Mode::Statement(stat) => self.statement(stat),
+            Mode::Ended(last) => self.ended(last),
+        }
     }
 
     /// Reads the end of the module.

@@ -1,0 +1,35 @@
+use Rattle.std.proofs.Common.{◌≡◌, ◌+◌, ◌∷◌, [], length, Ok, Err, true, false, None, Some, refl, sym, ap, subst, ◌∙◌, arith}
+use Rattle.std.proofs.lemmas.Result.{err_from_is_err_and}
+use Rattle.lua_tree.specs.declared.syntax.Stat.TheVariants as stat
+use Rattle.lua_tree.specs.declared.syntax.Expr.TheVariants as e
+use Rattle.lua_lexer.specs.declared.token.Symbol.TheVariants as s
+use Rattle.lua_lexer.specs.declared.token.Keyword.TheVariants as w
+use Rattle.lua_parser.specs.Words.{Words, marked, named, sign, key}
+use Rattle.lua_parser.specs.Machine.Plan.{Item, read, want}
+use Rattle.lua_parser.specs.Machine.Run.{run}
+use Rattle.lua_parser.specs.Grammar.Syntax.{Called, place, block}
+use Rattle.lua_parser.specs.declared.starters.Start.TheVariants as starts
+use Rattle.lua_parser.specs.declared.reader.Frame.TheVariants as frame
+use Rattle.lua_parser.specs.declared.reader.ListOf.TheVariants as list_of
+use Rattle.lua_parser.specs.declared.reader.BlockOf.TheVariants as block_of
+use Rattle.lua_parser.specs.declared.reader.BodyOf.TheVariants as body_of
+use Rattle.lua_parser.specs.declared.reader.Mode.TheVariants as mode
+use Rattle.lua_parser.specs.declared.reader.Reader.{Reader}
+use Rattle.lua_parser.specs.Stacks.{framed, listed, closed, opened, called, prefixed, form_of, tabled, behind_entry, bodied, signed, local_of, iterated, assignment, limited, stated, returned, valued, ended, onto, plan, plan_at, weight, weight_at, with_cursor, begun_stat, on_stat, on_return, on_expr, typed_plan, rest_plan, param_plan, more_params_plan, range}
+use Rattle.lua_parser.proofs.Goings.{taken, left, goes_as, goes_on, list_goes, call_goes, arguments_goes, colon_begins, function_begins}
+use Rattle.lua_parser.proofs.Starts.{behind_goes, finish_stuck}
+use Rattle.lua_parser.proofs.Closings.{body_goes, function_goes, method_goes, local_goes, local_none, entry_goes, item_goes, both_true, stepped, goes_from, fails_as, typed_stops, body_stops, no_name_taken}
+use Rattle.lua_parser.proofs.reader.Reader.end_clause.Goals as goal
+
+pub returns-then-branch : goal.returns-then-branch
+returns-then-branch c =
+    let t = taken (key w.Elseif) c.args.self.now.cursor c.take_word.new.self c.in_ok-take_word.field-0 c.in_ok-take_word.ensures c.if-branch.true in
+    rw (c.in_ok-push-2.ensures, c.in_ok-push.ensures) (refl, omega (arith, ap length t.1), ap (run c.args.self.now.kind (read (Item.more_clauses c.args.self.now.uses) (λ r. (on_stat c.args.self.now) (stat.If c.args.pos (onto c.args.clauses (c.args.clause ∷ r.0)) r.1, r.2, false)))) (sym t.1))
+
+pub returns-then-branch-2 : goal.returns-then-branch-2
+returns-then-branch-2 c =
+    let l = left (key w.Elseif) c.args.self.now.cursor c.take_word.new.self c.in_ok-take_word.field-0 c.in_ok-take_word.ensures c.if-branch.false in
+    let t = taken (key w.Else) c.take_word.new.self c.take_word-2.new.self c.in_ok-take_word-2.field-0 c.in_ok-take_word-2.ensures c.if-branch-2.true in
+    let u = sym l.0 ∙ t.1 in
+    goes_as (opened (block_of.Else c.args.pos c.push.new.self) c.args.self.now.uses (on_stat c.args.self.now) (on_expr c.args.self.now)) (read (Item.more_clauses c.args.self.now.uses) (λ r. (on_stat c.args.self.now) (stat.If c.args.pos (onto c.args.clauses (c.args.clause ∷ r.0)) r.1, r.2, false))) (weight_at c.take_word-2.new.self c.args.self.now.frames c.args.self.now.outer (mode.Operand 0) + 2) (weight c.args.self.now (mode.Operand 0)) c.args.self.now (with_cursor c.take_word-2.new.self c.args.self.now)
+    c.enter.new.self c.enter.result refl (omega (arith, ap length u)) (rw c.in_ok-push.ensures (ap (run c.args.self.now.kind (read (Item.more_clauses c.args.self.now.uses) (λ r. (on_stat c.args.self.now) (stat.If c.args.pos (onto c.args.clauses (c.args.clause ∷ r.0)) r.1, r.2, false)))) (sym u))) c.enter.ensures

@@ -1,0 +1,30 @@
+use Rattle.std.proofs.Common.{◌≡◌, ◌+◌, ◌∷◌, [], length, Ok, Err, true, false, None, Some, refl, sym, ap, subst, ◌∙◌, arith}
+use Rattle.std.proofs.lemmas.Result.{err_from_is_err_and}
+use Rattle.lua_tree.specs.declared.syntax.Stat.TheVariants as stat
+use Rattle.lua_tree.specs.declared.syntax.Expr.TheVariants as e
+use Rattle.lua_lexer.specs.declared.token.Symbol.TheVariants as s
+use Rattle.lua_lexer.specs.declared.token.Keyword.TheVariants as w
+use Rattle.lua_parser.specs.Words.{Words, marked, named, sign, key}
+use Rattle.lua_parser.specs.Machine.Plan.{Item, read, want}
+use Rattle.lua_parser.specs.Machine.Run.{run}
+use Rattle.lua_parser.specs.Grammar.Syntax.{Called, place, block}
+use Rattle.lua_parser.specs.declared.starters.Start.TheVariants as starts
+use Rattle.lua_parser.specs.declared.reader.Frame.TheVariants as frame
+use Rattle.lua_parser.specs.declared.reader.ListOf.TheVariants as list_of
+use Rattle.lua_parser.specs.declared.reader.BlockOf.TheVariants as block_of
+use Rattle.lua_parser.specs.declared.reader.BodyOf.TheVariants as body_of
+use Rattle.lua_parser.specs.declared.reader.Mode.TheVariants as mode
+use Rattle.lua_parser.specs.declared.reader.Reader.{Reader}
+use Rattle.lua_parser.specs.Stacks.{framed, listed, closed, opened, called, prefixed, form_of, tabled, behind_entry, bodied, signed, local_of, iterated, assignment, limited, stated, returned, valued, ended, onto, plan, plan_at, weight, weight_at, with_cursor, begun_stat, on_stat, on_return, on_expr, typed_plan, rest_plan, param_plan, more_params_plan, range}
+use Rattle.lua_parser.proofs.Goings.{taken, left, goes_as, goes_on, list_goes, call_goes, arguments_goes, colon_begins, function_begins}
+use Rattle.lua_parser.proofs.Starts.{behind_goes, finish_stuck}
+use Rattle.lua_parser.proofs.Closings.{body_goes, function_goes, method_goes, local_goes, local_none, entry_goes, item_goes, both_true, stepped, goes_from, fails_as, typed_stops, body_stops, no_name_taken}
+use Rattle.lua_parser.proofs.reader.Reader.method.Goals as goal
+
+pub returns : goal.returns
+returns c = λ x.
+    let b = colon_begins c.args.self.now.cursor c.pass.new.self c.requires c.in_ok-pass.ensures in
+    let n = c.in_ok-name.ensures in
+    goes_as (read (Item.some_arguments c.args.self.now.uses) (λ es. prefixed c.args.within (on_stat c.args.self.now) (on_expr c.args.self.now) Called (e.Method (place c.args.expr) c.args.expr c.in_ok-name.name es.0) es.1)) (plan c.args.self.now (mode.Prefix c.args.within x c.args.expr))
+    (weight_at c.need_name.new.self c.args.self.now.frames c.args.self.now.outer (mode.Operand 0)) (weight c.args.self.now (mode.Prefix c.args.within x c.args.expr)) c.args.self.now (with_cursor c.need_name.new.self c.args.self.now) c.arguments.new.self c.arguments.result refl
+    (omega (arith, ap length b, ap length n)) (method_goes c.args.self.now.kind (on_stat c.args.self.now) (on_expr c.args.self.now) c.args.within (form_of x) c.args.expr c.args.self.now.uses c.in_ok-name.name c.args.self.now.cursor c.pass.new.self c.need_name.new.self _ b n) c.arguments.ensures
