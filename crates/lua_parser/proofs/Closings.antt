@@ -74,10 +74,10 @@ module _ (kind : ModuleKind) where
   item_goes x n k (y ∷ us) h =
       read_on kind (Item.suffixes Target (e.Name x.pos n x.text) (n + 1)) behind y us
       ∙ sym (read_on kind (Item.named_or_item x n) k y us
-        ∙ ap (λ r. on kind y us r k) (if_false (is_mark (sign s.Assign) y.kind) _ _ h)
-        ∙ on_both kind y us (suffix_step Target (e.Name x.pos n x.text) (n + 1) y.pos y.kind)
-        (λ v. both (operations_step 1 unary_level v.1 v.2 true y.kind) (λ c. ends (entry.Item c.0, c.1)) (λ c. done (entry.Item c.0, c.1)))
-        (λ v. read (Item.operations 1 unary_level v.1 v.2 true) λ c. done (entry.Item c.0, c.1)) k behind operated (λ v. refl))
+      ∙ ap (λ r. on kind y us r k) (if_false (is_mark (sign s.Assign) y.kind) _ _ h)
+      ∙ on_both kind y us (suffix_step Target (e.Name x.pos n x.text) (n + 1) y.pos y.kind)
+      (λ v. both (operations_step 1 unary_level v.1 v.2 true y.kind) (λ c. ends (entry.Item c.0, c.1)) (λ c. done (entry.Item c.0, c.1)))
+      (λ v. read (Item.operations 1 unary_level v.1 v.2 true) λ c. done (entry.Item c.0, c.1)) k behind operated (λ v. refl))
     where
       behind : Form × Expr × ℕ → Plan Block
       behind v = read (Item.operations 1 unary_level v.1 v.2 true) λ c. k (entry.Item c.0, c.1)
@@ -115,7 +115,7 @@ module _ (kind : ModuleKind) where
       → run kind (k (stat.Local p (onto xs []) [], n, false)) ts ≡ run kind (read Item.more_typed λ ys. local_of p (onto xs ys) n k) ts
   local_none p xs n k ts l h d =
       sym (without (sign s.Comma) Item.more_typed _ [] (λ ys. local_of p (onto xs ys) n k) (λ q z. refl) ts l h
-        ∙ without (sign s.Assign) (Item.maybe_init n) _ ([], n, false) (λ i. k (stat.Local p (onto xs []) i.0, i.1, i.2)) (λ q z. refl) ts l d)
+      ∙ without (sign s.Assign) (Item.maybe_init n) _ ([], n, false) (λ i. k (stat.Local p (onto xs []) i.0, i.1, i.2)) (λ q z. refl) ts l d)
 
   -- an entry that begins with no name and no bracket
   pub entry_goes : (k : OnStat) (r : OnReturn) (f : OnExpr) (t : Table) (n : ℕ) (ts : Words) → head_is (sign s.CloseBrace) ts ≡ false → head_is (sign s.OpenBracket) ts ≡ false → head_is_name ts ≡ false
@@ -123,7 +123,7 @@ module _ (kind : ModuleKind) where
   entry_goes k r f t n [] a b d = refl
   entry_goes k r f t n (x ∷ us) a b d =
       sym (begins_as kind (Item.entries n) (Item.an_expr 1 n) x us (start_expr 1 n x.pos x.kind) (λ v. read (Item.behind_entry v.1) λ r. done (entry.Item v.0 ∷ r.0, r.1)) (tabled t k f) refl
-        (if_false (is_sign s.CloseBrace x.kind) _ _ a ∙ if_false (is_sign s.OpenBracket x.kind) _ _ b ∙ no_name _ _ x.kind d))
+      (if_false (is_sign s.CloseBrace x.kind) _ _ a ∙ if_false (is_sign s.OpenBracket x.kind) _ _ b ∙ no_name _ _ x.kind d))
     where
       no_name : {B : Type 0} (g : List ℕ → B) (o : B) (z : WordKind) → if_name z (λ y. true) false ≡ false → if_name z g o ≡ o
       no_name g o (WordKind.name y) h = cc
@@ -194,8 +194,8 @@ end_stops r stop.NotBuilt r' h d = cc
 pub body_stops : (o : BodyOf) (g : Signature) (d : List Stat × Option Return × ℕ) (w : ℕ) (r : Reader) (e : Stop) (r' : Reader) → Ends r (Err e) r' → GoesBy (closed (block_of.Body o g) d (on_stat r) (on_expr r)) w r (Err e) r'
 body_stops o g d v r e r' h =
     fails_as (closed (block_of.Body o g) d (on_stat r) (on_expr r)) v r r' e (λ q.
-      let b = end_stops r e r' h q in
-      ap (λ z. run r.kind z r.cursor) (closed_body o g d (on_stat r) (on_expr r)) ∙ missing r.kind (key w.End) _ r.cursor b.1 ∙ ap Err (sym b.0))
+    let b = end_stops r e r' h q in
+    ap (λ z. run r.kind z r.cursor) (closed_body o g d (on_stat r) (on_expr r)) ∙ missing r.kind (key w.End) _ r.cursor b.1 ∙ ap Err (sym b.0))
 
 pub no_name_taken : (ts : Words) (e : Stop) (new : Words) → NeedsName ts (Err e) new → head_is_name ts ≡ true → e ≡ stop.Unexpected → ⊥
 no_name_taken ts stop.Unexpected new h a d = name_stands ts a h.1

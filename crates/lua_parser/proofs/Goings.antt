@@ -203,9 +203,9 @@ module _ (kind : ModuleKind) (k : OnStat) (r : OnReturn) (f : OnExpr) where
       list_goes (list_of.Arguments o) n (x ∷ us)
       ∙ begins_as kind (Item.exprs n) (Item.exprs n) x us (start_exprs n x.pos x.kind) done (listed (list_of.Arguments o) k r f) refl (ap begun (sym (going_done (start_exprs n x.pos x.kind))))
       ∙ sym (read_on kind (Item.rest_of_arguments n) (λ es. called o k f es.0 es.1) x us
-        ∙ ap (λ z. on kind x us z (λ es. called o k f es.0 es.1)) (if_false (is_sign s.CloseParen x.kind) _ _ h)
-        ∙ on_going kind x us (start_exprs n x.pos x.kind) (λ es. want (sign s.CloseParen) λ _. done (es.0, es.1)) (λ es. called o k f es.0 es.1)
-        ∙ sym (read_on kind (Item.exprs n) (listed (list_of.Arguments o) k r f) x us))
+      ∙ ap (λ z. on kind x us z (λ es. called o k f es.0 es.1)) (if_false (is_sign s.CloseParen x.kind) _ _ h)
+      ∙ on_going kind x us (start_exprs n x.pos x.kind) (λ es. want (sign s.CloseParen) λ _. done (es.0, es.1)) (λ es. called o k f es.0 es.1)
+      ∙ sym (read_on kind (Item.exprs n) (listed (list_of.Arguments o) k r f) x us))
 
   pub no_argument_goes : (o : Called-of) (n : ℕ) (ts new : Words) (q : Pos) → ts ≡ symbol s.CloseParen q ∷ new
       → run kind (prefixed o.within k f Called (call_of o.callee o.method []) n) new ≡ run kind (read (Item.rest_of_arguments n) (λ es. called o k f es.0 es.1)) ts

@@ -16,9 +16,13 @@ use Rattle.lua_tree.specs.declared.syntax.Chunk.{Chunk}
 use Rattle.lua_parser.specs.Words.{Word, Words}
 use Rattle.lua_parser.specs.Grammar.Syntax.{SpellsChunk}
 use Rattle.lua_parser.specs.Grammar.Fault.{IsViable, IsDead, FaultAt, HasCode, foreign}
+use Rattle.lua_parser.specs.Machine.Plan.{Plan}
 use Rattle.lua_parser.specs.Machine.Run.{run, module_plan}
+use Rattle.lua_parser.specs.declared.reader.Reader.{Reader}
+use Rattle.lua_parser.specs.declared.reader.Mode.TheVariants as mode
+use Rattle.lua_parser.specs.Stacks.{plan}
 use Rattle.lua_parser.specs.Outcomes.{head_pos}
-use Rattle.lua_parser.specs.Parsing.{IsModule, IsRefused, IsFailure, IsTree, IsRefusal, GoesPast, head_foreign}
+use Rattle.lua_parser.specs.Parsing.{IsModule, IsRefused, IsFailure, IsTree, IsRefusal, GoesPast, head_foreign, code_if}
 use Rattle.lua_parser.proofs.Laws.{fault_at, spelled, goes_on, whole_goes_on, stops_before, one_tree, one_fault, no_tree_at_fault, one_code}
 
 refused_at : (kind : ModuleKind) (all : Words) (x : Word) (us : Words) (r : Refusal) → run kind module_plan all ≡ Err (x ∷ us) → ((front : Words) → all ≡ front ++ x ∷ us → HasCode front (x ∷ us) r.code) → r.pos ≡ x.pos
@@ -30,9 +34,6 @@ refused_at kind all x us r e c p =
 pub foreign_refused : (kind : ModuleKind) (all ts : Words) (c : RefusalCode) (r : Refusal) → run kind module_plan all ≡ Err ts → head_foreign ts ≡ Some c → r.code ≡ c → r.pos ≡ head_pos ts → IsRefused kind all r
 foreign_refused kind all [] c r e h a b = cc
 foreign_refused kind all (x ∷ us) c r e h a b = refused_at kind all x us r e (λ front w. subst (HasCode front (x ∷ us)) (sym a) (HasCode.foreign_word x h)) b
-
-abbrev code_if : Bool → RefusalCode
-code_if goes = if goes then code.P5 else code.P1
 
 typed_code : (all front : Words) (x : Word) (us : Words) (goes : Bool) → all ≡ front ++ x ∷ us → foreign x.kind ≡ None → GoesPast (length (x ∷ us)) (run Typed module_plan all) goes → HasCode front (x ∷ us) (code_if goes)
 typed_code all front x us goes e n g = go (run Typed module_plan all) refl g
@@ -88,3 +89,11 @@ pub only_refusal : (m : ℕ) {kind : ModuleKind} {ts : Words} {q : Refusal} (r :
 only_refusal m (Ok c) h k f = no_tree_at_fault h.2 (fault_of f)
 only_refusal m (Err failure.NoMemory) h k f = tt
 only_refusal m (Err (failure.Refused r)) h k f = refused_once k f
+
+-- ---- where a reader at a module's beginning gets to
+
+pub reached : (r : Reader) (kind : ModuleKind) (ts : Words) (x : Result Block Words) → r.kind ≡ kind → r.cursor ≡ ts → plan r mode.Block ≡ module_plan → run r.kind (plan r mode.Block) r.cursor ≡ x → run kind module_plan ts ≡ x
+reached r kind ts x a b c e = sym (λ i. run (a i) (c i) (b i)) ∙ e
+
+pub is_module : (m : ℕ) (kind : ModuleKind) (ts : Words) (b : Block) → run kind module_plan ts ≡ Ok b → IsModule m kind ts (record { «module» = m; kind = kind; body = b })
+is_module m kind ts b e = (refl, refl, spelled kind ts b e)

@@ -1,8 +1,9 @@
 -- What the reading of a module's tokens answers.
-use Rattle.std.specs.Prelude.{◌≡◌, ℕ, Bool, true, ◌∷◌, ◌++◌, [], List, length, nat_lt, Option, None, Result, Ok, Err}
+use Rattle.std.specs.Prelude.{◌≡◌, ℕ, Bool, true, ◌∷◌, ◌++◌, [], List, length, nat_lt, if◌then◌else◌, Option, None, Result, Ok, Err}
 use Rattle.tl_base.specs.declared.place.ModuleKind.{ModuleKind}
 use Rattle.tl_base.specs.declared.refusal.Refusal.{Refusal}
 use Rattle.tl_base.specs.declared.refusal.RefusalCode.{RefusalCode}
+use Rattle.tl_base.specs.declared.refusal.RefusalCode.TheVariants as code
 use Rattle.tl_base.specs.declared.refusal.Failure.{Failure}
 use Rattle.tl_base.specs.declared.refusal.Failure.TheVariants as failure
 use Rattle.lua_tree.specs.declared.syntax.Block.{Block}
@@ -52,3 +53,7 @@ head_foreign (x ∷ ts) = foreign x.kind
 abbrev pub GoesPast : ℕ → Result Block Words → Bool → Type 0
 GoesPast n (Ok b) goes = goes ≡ true
 GoesPast n (Err rest) goes = goes ≡ nat_lt (length rest) n
+
+-- the code of a word that would go on in a typed module, or wouldn't
+abbrev pub code_if : Bool → RefusalCode
+code_if goes = if goes then code.P5 else code.P1

@@ -194,7 +194,7 @@ ended [] d = want finish λ _. done (block d.0 d.1)
 ended (o ∷ os) d = closed o.of d
     (λ x. read (Item.a_block (is_outermost os) x.1 x.2) λ r. ended os (onto o.stats (x.0 ∷ r.0), r.1, r.2))
     (valued (λ x. read (Item.a_block (is_outermost os) x.1 x.2) λ r. ended os (onto o.stats (x.0 ∷ r.0), r.1, r.2))
-        (λ p es. read Item.maybe_semicolon λ _. ended os (onto o.stats [], Some (returns p es.0), es.1)) o.frames)
+    (λ p es. read Item.maybe_semicolon λ _. ended os (onto o.stats [], Some (returns p es.0), es.1)) o.frames)
 
 abbrev pub stated : List Outer → List Stat → OnStat
 stated os ss x = read (Item.a_block (is_outermost os) x.1 x.2) λ r. ended os (onto ss (x.0 ∷ r.0), r.1, r.2)

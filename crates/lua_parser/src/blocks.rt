@@ -79,11 +79,7 @@ impl<'a> Reader<'a> {
             }
             BlockOf::While(pos, condition) => {
                 self.end(depth)?;
-                Ok(Mode::Statement(Stat::While(
-                    pos,
-                    condition,
-                    block(stats, last),
-                )))
+                Ok(Mode::Statement(Stat::While(pos, condition, block(stats, last))))
             }
             BlockOf::Repeat(pos) => {
                 self.cursor.need_word(Keyword::Until)?;
@@ -99,11 +95,7 @@ impl<'a> Reader<'a> {
             }
             BlockOf::Else(pos, clauses) => {
                 self.end(depth)?;
-                Ok(Mode::Statement(Stat::If(
-                    pos,
-                    clauses.into_list(),
-                    Some(block(stats, last)),
-                )))
+                Ok(Mode::Statement(Stat::If(pos, clauses.into_list(), Some(block(stats, last)))))
             }
             BlockOf::Numeric(range, step) => {
                 self.end(depth)?;
@@ -118,12 +110,7 @@ impl<'a> Reader<'a> {
             }
             BlockOf::Generic(pos, names, values) => {
                 self.end(depth)?;
-                Ok(Mode::Statement(Stat::GenericFor(
-                    pos,
-                    names,
-                    values,
-                    block(stats, last),
-                )))
+                Ok(Mode::Statement(Stat::GenericFor(pos, names, values, block(stats, last))))
             }
             BlockOf::Body(of, signature) => {
                 self.end(depth)?;
@@ -176,11 +163,7 @@ impl<'a> Reader<'a> {
         match of {
             BodyOf::Operand(least, pos) => {
                 self.cursor.leaf();
-                Ok(Mode::Operation(
-                    least,
-                    UNARY_LEVEL,
-                    Expr::Function(pos, inner),
-                ))
+                Ok(Mode::Operation(least, UNARY_LEVEL, Expr::Function(pos, inner)))
             }
             BodyOf::Function(pos, target) => Ok(Mode::Statement(Stat::Function(
                 pos,

@@ -4,9 +4,9 @@ ghost use Rattle.lua_parser.specs.Machine.Steps.{binary_at};
 ghost use Rattle.lua_parser.specs.Parsing.{head_foreign};
 ghost use Rattle.lua_parser.specs.Outcomes.{head_atom, head_is, head_pos, head_number, head_unary, head_binary, Eats, Takes, EatsText, TakesName};
 
+use crate::limits::Limits;
 use lua_lexer::{Keyword, Symbol, Token, TokenKind};
 use lua_tree::{BinaryOperator, Name, UnaryOperator};
-use crate::limits::Limits;
 use std::alloc::Global;
 use std::marker::Model;
 use tl_base::{Bytes, NoMemory, Pos, RefusalCode};

@@ -4,10 +4,10 @@ ghost use Rattle.lua_parser.specs.Stacks.{Goes, GoesBy, begun_stat, bodied, sign
 ghost use Rattle.lua_parser.specs.declared.starters.Start.TheVariants as starts;
 ghost use Rattle.lua_parser.specs.declared.reader.Mode.TheVariants as mode;
 
+use crate::annotations::{annotation, outcome};
 use crate::cursor::Stop;
 use crate::reader::{BlockOf, BodyOf, Frame, Header, ListOf, Mode, Reader, Signature, place};
 use crate::stack::Stack;
-use crate::annotations::{annotation, outcome};
 use lua_lexer::{Keyword, Symbol};
 use lua_tree::{Expr, Name, Rest, Stat, TypeExpr, Typed};
 use tl_base::{Boxed, List, Pos};
@@ -35,12 +35,7 @@ impl<'a> Reader<'a> {
     }
 
     /// Reads what stands behind names of a `for`.
-    pub(crate) fn names(
-        &mut self,
-        pos: Pos,
-        names: Stack<Name>,
-        depth: u32,
-    ) -> Result<Mode, Stop>
+    pub(crate) fn names(&mut self, pos: Pos, names: Stack<Name>, depth: u32) -> Result<Mode, Stop>
         requires { 0 < length self.old.cursor }
         ensures { Goes self.old (mode.Names pos names depth) result self.new }
     {
@@ -60,11 +55,7 @@ impl<'a> Reader<'a> {
         ensures { GoesBy (iterated pos (onto names []) self.old.uses (on_stat self.old) (on_expr self.old)) (weight self.old (mode.Operand 0) + 3) self.old result self.new }
     {
         let none = Stack::new(self.alloc);
-        self.push(
-            Frame::Listed(ListOf::Iterated(pos, names), none),
-            0,
-            depth,
-        )?;
+        self.push(Frame::Listed(ListOf::Iterated(pos, names), none), 0, depth)?;
         Ok(Mode::Operand(1))
     }
 
@@ -107,14 +98,7 @@ impl<'a> Reader<'a> {
         self.cursor.need(Symbol::OpenParen)?;
         self.cursor.open();
         self.cursor.open();
-        Ok(Mode::Params(
-            Header {
-                of,
-                params,
-                depth,
-            },
-            true,
-        ))
+        Ok(Mode::Params(Header { of, params, depth }, true))
     }
 
     /// Reads a parameter, or the end of the parameters where that may be.
@@ -227,10 +211,6 @@ impl<'a> Reader<'a> {
             return self.list(ListOf::Locals(pos, names));
         }
         self.takes_call = false;
-        Ok(Mode::Statement(Stat::Local(
-            pos,
-            names.into_list(),
-            List::new(self.alloc),
-        )))
+        Ok(Mode::Statement(Stat::Local(pos, names.into_list(), List::new(self.alloc))))
     }
 }

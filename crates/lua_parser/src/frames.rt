@@ -39,13 +39,7 @@ impl<'a> Reader<'a> {
     }
 
     /// What a whole expression becomes that is for this.
-    fn framed(
-        &mut self,
-        frame: Frame,
-        height: u32,
-        depth: u32,
-        expr: Expr,
-    ) -> Result<Mode, Stop>
+    fn framed(&mut self, frame: Frame, height: u32, depth: u32, expr: Expr) -> Result<Mode, Stop>
         requires { 0 < length self.old.cursor }
         ensures { GoesBy (framed frame (on_stat self.old) (on_return self.old) (on_expr self.old) (expr, self.old.uses, self.old.takes_call)) (weight self.old (mode.Operand 0) + 5) self.old result self.new }
     {
@@ -102,11 +96,7 @@ impl<'a> Reader<'a> {
         self.cursor.close(depth);
         self.cursor.grow(0)?;
         let inner = Boxed::new(self.alloc, expr)?;
-        Ok(Mode::Operation(
-            least,
-            UNARY_LEVEL,
-            Expr::Unary(pos, operator, inner),
-        ))
+        Ok(Mode::Operation(least, UNARY_LEVEL, Expr::Unary(pos, operator, inner)))
     }
 
     /// The operation of two operands.
@@ -128,24 +118,14 @@ impl<'a> Reader<'a> {
     }
 
     /// Reads the end of an expression in parentheses.
-    fn end_paren(
-        &mut self,
-        within: Within,
-        pos: Pos,
-        depth: u32,
-        expr: Expr,
-    ) -> Result<Mode, Stop>
+    fn end_paren(&mut self, within: Within, pos: Pos, depth: u32, expr: Expr) -> Result<Mode, Stop>
         ensures { GoesBy (framed (frame.Paren within pos) (on_stat self.old) (on_return self.old) (on_expr self.old) (expr, self.old.uses, self.old.takes_call)) (weight self.old (mode.Operand 0) + 5) self.old result self.new }
     {
         self.cursor.need(Symbol::CloseParen)?;
         self.cursor.close(depth);
         self.cursor.grow(0)?;
         let inner = Boxed::new(self.alloc, expr)?;
-        Ok(Mode::Prefix(
-            within,
-            Form::Enclosed,
-            Expr::Paren(pos, inner),
-        ))
+        Ok(Mode::Prefix(within, Form::Enclosed, Expr::Paren(pos, inner)))
     }
 
     /// Reads the end of an index.
@@ -166,11 +146,7 @@ impl<'a> Reader<'a> {
         let alloc = self.alloc;
         let object = Boxed::new(alloc, prefix)?;
         let key = Boxed::new(alloc, expr)?;
-        Ok(Mode::Prefix(
-            within,
-            Form::Target,
-            Expr::Index(pos, object, key),
-        ))
+        Ok(Mode::Prefix(within, Form::Target, Expr::Index(pos, object, key)))
     }
 
     /// Reads what stands behind an expression of a list.

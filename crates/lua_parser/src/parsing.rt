@@ -1,8 +1,8 @@
-ghost use Rattle.std.specs.Prelude.{◌≡◌, ◌<◌, [], length, Err, IfOk, IfErr};
+ghost use Rattle.std.specs.Prelude.{◌≡◌, ◌<◌, [], length, None, Err, IfOk, IfErr};
 ghost use Rattle.lua_tree.specs.declared.syntax.Block.{Block};
 ghost use Rattle.lua_parser.specs.Words.{Words, words_of};
 ghost use Rattle.lua_parser.specs.Grammar.Syntax.{SpellsChunk};
-ghost use Rattle.lua_parser.specs.Parsing.{IsModule, IsRefused, IsFailure, IsTree, IsRefusal, GoesPast};
+ghost use Rattle.lua_parser.specs.Parsing.{IsModule, IsRefused, IsFailure, IsTree, IsRefusal, GoesPast, head_foreign, code_if};
 ghost use Rattle.lua_parser.specs.Machine.Run.{run};
 ghost use Rattle.tl_base.specs.declared.refusal.Refusal.{Refusal};
 ghost use Rattle.tl_base.specs.declared.place.ModuleKind.TheVariants.{Typed as typed};
@@ -119,8 +119,9 @@ impl<'a> Reader<'a> {
     {
         let mut mode = first;
         loop {
+            // no token stands behind the file's end, so this is no file's list of tokens
             if self.cursor.is_over() {
-                return Err(Stop::Unexpected);
+                return Err(Stop::NoMemory);
             }
             match self.step(mode)? {
                 Step::Next(next) => mode = next,
@@ -134,7 +135,13 @@ impl<'a> Reader<'a> {
 /// `goto` and `::`, P5 for a token that would go on in a typed module, else P1. `module` is the file's number, which the tokens' places bear. A module with
 /// more than 200 constructs in one another, or with an expression or a type that is more than 1000 high, is answered as want of memory, and so are
 /// tokens whose last isn't `End`.
-pub fn parse(alloc: Global, module: u32, kind: ModuleKind, source: &[u8], tokens: &List<Token>) -> Result<Chunk, Failure>
+pub fn parse(
+    alloc: Global,
+    module: u32,
+    kind: ModuleKind,
+    source: &[u8],
+    tokens: &List<Token>,
+) -> Result<Chunk, Failure>
     ensures tree { IfOk result (λ c. IsModule «module» kind (words_of source.now tokens.now) c) }
     ensures refused { IfErr result (λ e. IsFailure kind (words_of source.now tokens.now) e) }
     ensures only_tree { (b : Block) → SpellsChunk kind b (words_of source.now tokens.now) → IsTree b result }
@@ -143,13 +150,7 @@ pub fn parse(alloc: Global, module: u32, kind: ModuleKind, source: &[u8], tokens
     let mut reader = Reader::new(alloc, kind, source, tokens.as_slice());
     match reader.read(Mode::Block) {
         Ok(body) => Ok(Chunk { module, kind, body }),
-        Err(Stop::Unexpected) => Err(fault(
-            alloc,
-            kind,
-            source,
-            tokens.as_slice(),
-            &reader.cursor,
-        )),
+        Err(Stop::Unexpected) => Err(fault(alloc, kind, source, tokens.as_slice(), &reader.cursor)),
         Err(_) => Err(Failure::NoMemory),
     }
 }
@@ -168,20 +169,45 @@ fn fault(
     if left.is_over() {
         return Failure::NoMemory;
     }
-    let pos = left.pos();
-    if let Some(code) = left.foreign() {
-        return Failure::Refused(Refusal { code, pos });
-    }
-    match goes_on_typed(alloc, source, tokens, left.len()) {
-        Ok(true) => Failure::Refused(Refusal {
-            code: RefusalCode::P5,
-            pos,
+    match left.foreign() {
+        Some(code) => Failure::Refused(Refusal {
+            code,
+            pos: left.pos(),
         }),
-        Ok(false) => Failure::Refused(Refusal {
-            code: RefusalCode::P1,
-            pos,
+        None => own_fault(alloc, kind, source, tokens, left),
+    }
+}
+
+/// The refusal at the first token that is left where reading stops, which is one that Lua has.
+fn own_fault(
+    alloc: Global,
+    kind: ModuleKind,
+    source: &[u8],
+    tokens: &[Token],
+    left: &Cursor<'_>,
+) -> Failure
+    requires stops { run kind module_plan (words_of source.now tokens.now) ≡ Err left.now }
+    requires some { left.now ≡ [] → ⊥ }
+    requires own { head_foreign left.now ≡ None }
+    ensures { IsFailure kind (words_of source.now tokens.now) result }
+{
+    match goes_on_typed(alloc, source, tokens, left.len()) {
+        Ok(goes) => Failure::Refused(Refusal {
+            code: types_code(goes),
+            pos: left.pos(),
         }),
         Err(NoMemory) => Failure::NoMemory,
+    }
+}
+
+/// The code of a token that would go on in a typed module, or wouldn't.
+fn types_code(goes: bool) -> RefusalCode
+    ensures { result ≡ code_if goes }
+{
+    if goes {
+        RefusalCode::P5
+    } else {
+        RefusalCode::P1
     }
 }
 

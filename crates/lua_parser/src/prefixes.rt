@@ -10,9 +10,7 @@ ghost use Rattle.lua_parser.specs.declared.starters.Suffix.TheVariants as suffix
 
 use crate::cursor::Stop;
 use crate::expressions::UNARY_LEVEL;
-use crate::reader::{
-    Called, Form, Frame, ListOf, Mode, Reader, Table, TableOf, Within, place,
-};
+use crate::reader::{Called, Form, Frame, ListOf, Mode, Reader, Table, TableOf, Within, place};
 use crate::stack::Stack;
 use crate::starters::Suffix;
 use lua_lexer::Symbol;
@@ -79,11 +77,7 @@ impl<'a> Reader<'a> {
         self.cursor.grow(0)?;
         let pos = place(&expr);
         let inner = Boxed::new(alloc, expr)?;
-        Ok(Mode::Prefix(
-            within,
-            Form::Target,
-            Expr::Field(pos, inner, name),
-        ))
+        Ok(Mode::Prefix(within, Form::Target, Expr::Field(pos, inner, name)))
     }
 
     /// Reads the bracket of `[key]`.

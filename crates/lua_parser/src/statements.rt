@@ -8,11 +8,11 @@ ghost use Rattle.lua_tree.specs.declared.syntax.Stat.TheVariants as stat;
 ghost use Rattle.lua_parser.specs.declared.starters.Opener.TheVariants as openers;
 ghost use Rattle.lua_parser.specs.declared.reader.Mode.TheVariants as mode;
 
+use crate::annotations::{a_type, fields_of_interface};
 use crate::cursor::Stop;
 use crate::reader::{BlockOf, Form, Frame, ListOf, Mode, Reader, Within};
 use crate::stack::Stack;
 use crate::starters::{Opener, Start};
-use crate::annotations::{a_type, fields_of_interface};
 use lua_lexer::Symbol;
 use lua_tree::{Expr, Name, Stat};
 use tl_base::{List, ModuleKind, Pos};

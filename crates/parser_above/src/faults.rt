@@ -102,7 +102,12 @@ fn answer(alloc: Global, kind: ModuleKind, text: &str) -> Result<String, AllocEr
 }
 
 // Compares each line of a table, and gives their number.
-fn agrees(rt: &impl Abort, alloc: Global, kind: ModuleKind, table: &str) -> Result<usize, AllocError> {
+fn agrees(
+    rt: &impl Abort,
+    alloc: Global,
+    kind: ModuleKind,
+    table: &str,
+) -> Result<usize, AllocError> {
     let mut count: usize = 0;
     for line in table.lines() {
         let (text, want) = line.rsplit_once("  ").unwrap_or((line, "nothing"));

@@ -105,7 +105,13 @@ fn binary(operator: BinaryOperator) -> &'static str {
 }
 
 // What is done, and to what.
-fn put_group(alloc: Global, out: &mut String, head: &str, first: &Expr, others: &[Expr]) -> Result<(), AllocError> {
+fn put_group(
+    alloc: Global,
+    out: &mut String,
+    head: &str,
+    first: &Expr,
+    others: &[Expr],
+) -> Result<(), AllocError> {
     out.push('(')?;
     out.push_str(head)?;
     out.push(' ')?;
@@ -118,7 +124,13 @@ fn put_group(alloc: Global, out: &mut String, head: &str, first: &Expr, others: 
     Ok(())
 }
 
-fn put_two(alloc: Global, out: &mut String, head: &str, left: &Expr, right: &Expr) -> Result<(), AllocError> {
+fn put_two(
+    alloc: Global,
+    out: &mut String,
+    head: &str,
+    left: &Expr,
+    right: &Expr,
+) -> Result<(), AllocError> {
     out.push('(')?;
     out.push_str(head)?;
     out.push(' ')?;
@@ -160,7 +172,13 @@ fn put_table(alloc: Global, out: &mut String, entries: &List<Entry>) -> Result<(
     Ok(())
 }
 
-fn put_method(alloc: Global, out: &mut String, object: &Expr, name: &Bytes, values: &[Expr]) -> Result<(), AllocError> {
+fn put_method(
+    alloc: Global,
+    out: &mut String,
+    object: &Expr,
+    name: &Bytes,
+    values: &[Expr],
+) -> Result<(), AllocError> {
     out.push_str("(method ")?;
     put(alloc, out, object)?;
     out.push(' ')?;
@@ -201,11 +219,35 @@ fn put(alloc: Global, out: &mut String, expr: &Expr) -> Result<(), AllocError> {
             out.push(')')
         }
         Expr::Index(_, object, key) => put_two(alloc, out, "at", object.get(), key.get()),
-        Expr::Call(_, callee, values) => put_group(alloc, out, "call", callee.get(), values.as_slice()),
-        Expr::Method(_, object, name, values) => put_method(alloc, out, object.get(), &name.text, values.as_slice()),
+        Expr::Call(_, callee, values) => put_group(
+            alloc,
+            out,
+            "call",
+            callee.get(),
+            values.as_slice(),
+        ),
+        Expr::Method(_, object, name, values) => put_method(
+            alloc,
+            out,
+            object.get(),
+            &name.text,
+            values.as_slice(),
+        ),
         Expr::Table(_, entries) => put_table(alloc, out, entries),
-        Expr::Unary(_, operator, inner) => put_group(alloc, out, unary(*operator), inner.get(), &[]),
-        Expr::Binary(_, operator, left, right) => put_two(alloc, out, binary(*operator), left.get(), right.get()),
+        Expr::Unary(_, operator, inner) => put_group(
+            alloc,
+            out,
+            unary(*operator),
+            inner.get(),
+            &[],
+        ),
+        Expr::Binary(_, operator, left, right) => put_two(
+            alloc,
+            out,
+            binary(*operator),
+            left.get(),
+            right.get(),
+        ),
         Expr::Mark(_, inner) => put_group(alloc, out, "mark", inner.get(), &[]),
         other => put_leaf(alloc, out, other),
     }
@@ -254,6 +296,9 @@ fn operators_bind_by_their_levels(rt: HostRuntime) -> Result<(), Fail> {
 
 #[test]
 fn a_call_on_the_next_line_goes_on(rt: HostRuntime) -> Result<(), Fail> {
-    assert_eq!(rt; answer(rt.alloc(), "f\n(g)()")?.as_str(), "(call (call f g))");
+    assert_eq!(rt;
+        answer(rt.alloc(), "f\n(g)()")?.as_str(),
+        "(call (call f g))"
+    );
     Ok(())
 }

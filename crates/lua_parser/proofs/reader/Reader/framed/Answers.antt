@@ -25,8 +25,8 @@ pub returns-in_err-need_word-in-Step : goal.returns-in_err-need_word-in-Step
 returns-in_err-need_word-in-Step c =
     let p = err_from_is_err_and c.from_residual-in_err-need_word-in-Step.result c.from_residual-in_err-need_word-in-Step.ensures.1 in
     rw (c.in-Step.is, p.1, p.2) (fails_as (framed (frame.Step c.in-Step.range) (on_stat c.args.self.now) (on_return c.args.self.now) (on_expr c.args.self.now) (c.args.expr, c.args.self.now.uses, c.args.self.now.takes_call)) (weight c.args.self.now (mode.Operand 0) + 5) c.args.self.now (with_cursor c.need_word-in-Step.new.self c.args.self.now) c.in_err-need_word-in-Step.field-0.0 (λ q.
-      let h = need_stops (key w.Do) c.args.self.now.cursor c.in_err-need_word-in-Step.field-0.0 c.need_word-in-Step.new.self c.in_err-need_word-in-Step.ensures q in
-      missing c.args.self.now.kind (key w.Do) _ c.args.self.now.cursor h.1 ∙ ap Err (sym h.0)))
+    let h = need_stops (key w.Do) c.args.self.now.cursor c.in_err-need_word-in-Step.field-0.0 c.need_word-in-Step.new.self c.in_err-need_word-in-Step.ensures q in
+    missing c.args.self.now.kind (key w.Do) _ c.args.self.now.cursor h.1 ∙ ap Err (sym h.0)))
 
 pub returns-in-Listed : goal.returns-in-Listed
 returns-in-Listed c = rw c.in-Listed.is c.listed.ensures

@@ -26,8 +26,8 @@ returns-in_err-typed c =
     let p = err_from_is_err_and c.from_residual-in_err-typed.result c.from_residual-in_err-typed.ensures.1 in
     let l = left (key w.Function) c.args.self.now.cursor c.take_word.new.self c.in_ok-take_word.field-0 c.in_ok-take_word.ensures c.if-branch.false in
     rw (p.1, p.2) (fails_as (read (Item.rest_of_local c.args.pos c.args.self.now.uses) (on_stat c.args.self.now)) (weight c.args.self.now (mode.Operand 0) + 8) c.args.self.now c.typed.new.self c.in_err-typed.field-0.0 (λ q.
-      sym (ap (run c.args.self.now.kind (typed_plan λ x. read Item.more_typed λ r. local_of c.args.pos (x ∷ r) c.args.self.now.uses (on_stat c.args.self.now))) l.0 ∙ local_goes c.args.self.now.kind c.args.pos c.args.self.now.uses (on_stat c.args.self.now) c.args.self.now.cursor l.1)
-      ∙ typed_stops (with_cursor c.take_word.new.self c.args.self.now) c.in_err-typed.field-0.0 c.typed.new.self c.in_err-typed.ensures q (λ x. read Item.more_typed λ r. local_of c.args.pos (x ∷ r) c.args.self.now.uses (on_stat c.args.self.now))))
+    sym (ap (run c.args.self.now.kind (typed_plan λ x. read Item.more_typed λ r. local_of c.args.pos (x ∷ r) c.args.self.now.uses (on_stat c.args.self.now))) l.0 ∙ local_goes c.args.self.now.kind c.args.pos c.args.self.now.uses (on_stat c.args.self.now) c.args.self.now.cursor l.1)
+    ∙ typed_stops (with_cursor c.take_word.new.self c.args.self.now) c.in_err-typed.field-0.0 c.typed.new.self c.in_err-typed.ensures q (λ x. read Item.more_typed λ r. local_of c.args.pos (x ∷ r) c.args.self.now.uses (on_stat c.args.self.now))))
 
 pub returns : goal.returns
 returns c =

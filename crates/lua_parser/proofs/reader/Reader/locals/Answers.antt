@@ -27,7 +27,7 @@ returns-in_err-typed c =
     let p = err_from_is_err_and c.from_residual-in_err-typed.result c.from_residual-in_err-typed.ensures.1 in
     let t = taken (sign s.Comma) c.args.self.now.cursor c.take.new.self c.in_ok-take.field-0 c.in_ok-take.ensures c.if-branch.true in
     rw (p.1, p.2) (fails_as (read Item.more_typed λ ys. local_of c.args.pos (onto c.args.names ys) c.args.self.now.uses (on_stat c.args.self.now)) (weight c.args.self.now (mode.Locals c.args.pos c.args.names)) c.args.self.now c.typed.new.self c.in_err-typed.field-0.0 (λ q.
-      ap (run c.args.self.now.kind (read Item.more_typed λ ys. local_of c.args.pos (onto c.args.names ys) c.args.self.now.uses (on_stat c.args.self.now))) t.1 ∙ typed_stops (with_cursor c.take.new.self c.args.self.now) c.in_err-typed.field-0.0 c.typed.new.self c.in_err-typed.ensures q (λ x. read Item.more_typed λ r. local_of c.args.pos (onto c.args.names (x ∷ r)) c.args.self.now.uses (on_stat c.args.self.now))))
+    ap (run c.args.self.now.kind (read Item.more_typed λ ys. local_of c.args.pos (onto c.args.names ys) c.args.self.now.uses (on_stat c.args.self.now))) t.1 ∙ typed_stops (with_cursor c.take.new.self c.args.self.now) c.in_err-typed.field-0.0 c.typed.new.self c.in_err-typed.ensures q (λ x. read Item.more_typed λ r. local_of c.args.pos (onto c.args.names (x ∷ r)) c.args.self.now.uses (on_stat c.args.self.now))))
 
 pub returns-then-branch : goal.returns-then-branch
 returns-then-branch c =

@@ -1,0 +1,8 @@
+use Rattle.std.proofs.Common.{◌≡◌, ◌∷◌, [], length, Ok, Err, Some, None, true, false, refl, sym, ap, subst, ◌∙◌, arith}
+use Rattle.lua_parser.specs.Words.{words_of}
+use Rattle.lua_parser.specs.Parsing.{IsFailure}
+use Rattle.lua_parser.proofs.Parsings.{foreign_refused, typed_refused, reached, is_module, only_tree, only_refusal}
+use Rattle.lua_parser.proofs.parsing.fault.Goals as goal
+
+pub returns-in-Some : goal.returns-in-Some
+returns-in-Some c = foreign_refused c.args.kind (words_of c.args.source.now c.args.tokens.now) c.args.left.now c.in-Some.code (record { code = c.in-Some.code; pos = c.pos.result }) c.requires (sym c.in-Some.ensures) refl c.pos.ensures
