@@ -16,10 +16,10 @@ use Rattle.lua_tree.specs.declared.annotation.Name.{Name}
 use Rattle.lua_tree.specs.declared.syntax.Rest.{Rest}
 use Rattle.lua_lexer.specs.declared.token.Keyword.TheVariants as w
 use Rattle.lua_lexer.specs.declared.token.Symbol.TheVariants as s
-use Rattle.lua_parser.specs.Words.{Word, Words, WordKind, Mark, marked, symbol, keyword, named, name_at, key, sign}
+use Rattle.lua_parser.specs.Words.{Words, WordKind, Mark, symbol, keyword, named, name_at, key, sign}
 use Rattle.lua_parser.specs.Grammar.Syntax.{Form, Target, Called, place, typed, rest_at, block}
 use Rattle.lua_parser.specs.Grammar.Levels.{unary_level}
-use Rattle.lua_parser.specs.Machine.Plan.{Item, Plan, Gives, Reply, stuck, ends, takes, done, want, read, onward}
+use Rattle.lua_parser.specs.Machine.Plan.{Item, Plan, Gives, stuck, ends, takes, done, want, read}
 use Rattle.lua_parser.specs.Machine.Steps.{is_mark, is_sign, if_name, start_expr, both, suffix_step, operations_step, step}
 use Rattle.lua_parser.specs.Machine.Run.{run}
 use Rattle.lua_parser.specs.Outcomes.{head_is, head_pos, head_name, head_is_name, NeedsName, Needs}

@@ -1,6 +1,6 @@
 -- Single steps of the reader, as equations between runs.
-use Rattle.std.proofs.Common.{◌≡◌, ℕ, ◌+◌, ◌<◌, ◌≤◌, Bool, true, false, List, [], ◌∷◌, Option, Some, None, Result, Ok, Err, drop, refl, sym, ap, ◌∙◌, subst, arith}
-use Rattle.std.specs.Prelude.{if◌then◌else◌, ◌&&◌}
+use Rattle.std.proofs.Common.{◌≡◌, ℕ, ◌<◌, ◌≤◌, Bool, true, false, List, [], ◌∷◌, Option, Some, None, Result, Ok, Err, drop, refl, sym, ap, ◌∙◌, subst, arith}
+use Rattle.std.specs.Prelude.{if◌then◌else◌}
 use Rattle.tl_base.specs.declared.place.Pos.{Pos}
 use Rattle.tl_base.specs.declared.place.ModuleKind.{ModuleKind}
 use Rattle.lua_tree.specs.declared.syntax.Expr.{Expr}
@@ -9,11 +9,10 @@ use Rattle.lua_tree.specs.declared.syntax.Block.{Block}
 use Rattle.lua_tree.specs.declared.syntax.Stat.TheVariants as stat
 use Rattle.lua_lexer.specs.declared.token.Keyword.TheVariants as w
 use Rattle.lua_lexer.specs.declared.token.Symbol.TheVariants as s
-use Rattle.lua_parser.specs.Words.{Word, Words, WordKind, Mark, mark, marked, symbol, keyword, quoted, key, sign, finish}
-use Rattle.lua_parser.specs.Grammar.Levels.{unary_level}
-use Rattle.lua_parser.specs.Grammar.Syntax.{Form, Target, Called, Enclosed, place}
-use Rattle.lua_parser.specs.Machine.Plan.{Item, Plan, Reply, stuck, ends, takes, done, want, want_name, read, onward}
-use Rattle.lua_parser.specs.Machine.Steps.{is_sign, operand, suffix, suffix_step, end_of_stat, values_step, assigned, or_ends, or_else, both, going, begun, start_expr, start_exprs}
+use Rattle.lua_parser.specs.Words.{Word, Words, WordKind, Mark, mark, marked, symbol, quoted, key, sign, finish}
+use Rattle.lua_parser.specs.Grammar.Syntax.{Form, Target, Called, place}
+use Rattle.lua_parser.specs.Machine.Plan.{Item, Plan, Reply, stuck, takes, done, want, want_name, read, onward}
+use Rattle.lua_parser.specs.Machine.Steps.{is_sign, suffix, end_of_stat, values_step, assigned, or_ends, or_else, both, going, begun, start_expr, start_exprs}
 use Rattle.lua_parser.specs.Machine.Run.{run}
 use Rattle.lua_parser.specs.Outcomes.{head_is, head_pos, head_starter, head_suffix, starter_of, suffix_of, begins_arguments, TakesMark}
 use Rattle.lua_parser.specs.declared.starters.Starter.TheVariants as starts

@@ -1,22 +1,19 @@
 -- What the reading of a module answers, from where its run ends.
-use Rattle.std.proofs.Common.{◌≡◌, ℕ, Bool, true, false, Option, Some, None, ◌<◌, ◌≤◌, [], ◌∷◌, ◌++◌, length, Result, Ok, Err, refl, sym, subst, ap, ◌∙◌, arith}
-use Rattle.std.specs.Prelude.{nat_lt, if◌then◌else◌, IfOk, IfErr}
+use Rattle.std.proofs.Common.{◌≡◌, ℕ, Bool, true, false, Some, None, [], ◌∷◌, ◌++◌, length, Result, Ok, Err, refl, sym, subst, ap, ◌∙◌, arith}
+use Rattle.std.specs.Prelude.{nat_lt, IfOk, IfErr}
 use Rattle.std.proofs.lemmas.List.{length-append}
 use Rattle.std.proofs.lemmas.Bool.Decides.{nat_tests}
-use Rattle.tl_base.specs.declared.place.Pos.{Pos}
 use Rattle.tl_base.specs.declared.place.ModuleKind.{ModuleKind}
 use Rattle.tl_base.specs.declared.place.ModuleKind.TheVariants.{Typed}
 use Rattle.tl_base.specs.declared.refusal.Refusal.{Refusal}
 use Rattle.tl_base.specs.declared.refusal.RefusalCode.{RefusalCode}
-use Rattle.tl_base.specs.declared.refusal.RefusalCode.TheVariants as code
 use Rattle.tl_base.specs.declared.refusal.Failure.{Failure}
 use Rattle.tl_base.specs.declared.refusal.Failure.TheVariants as failure
 use Rattle.lua_tree.specs.declared.syntax.Block.{Block}
 use Rattle.lua_tree.specs.declared.syntax.Chunk.{Chunk}
 use Rattle.lua_parser.specs.Words.{Word, Words}
 use Rattle.lua_parser.specs.Grammar.Syntax.{SpellsChunk}
-use Rattle.lua_parser.specs.Grammar.Fault.{IsViable, IsDead, FaultAt, HasCode, foreign}
-use Rattle.lua_parser.specs.Machine.Plan.{Plan}
+use Rattle.lua_parser.specs.Grammar.Fault.{FaultAt, HasCode, foreign}
 use Rattle.lua_parser.specs.Machine.Run.{run, module_plan}
 use Rattle.lua_parser.specs.declared.reader.Reader.{Reader}
 use Rattle.lua_parser.specs.declared.reader.Mode.TheVariants as mode

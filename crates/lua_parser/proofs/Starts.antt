@@ -1,6 +1,6 @@
 -- How statements begin, as equations between runs.
-use Rattle.std.proofs.Common.{◌≡◌, ℕ, ◌+◌, Bool, true, false, List, [], ◌∷◌, Option, Some, None, Result, Ok, Err, drop, refl, sym, ap, ◌∙◌, subst, arith}
-use Rattle.std.specs.Prelude.{if◌then◌else◌, ◌&&◌, length}
+use Rattle.std.proofs.Common.{◌≡◌, ℕ, ◌+◌, Bool, true, false, List, [], ◌∷◌, Option, Some, None, Ok, Err, drop, refl, sym, ap, ◌∙◌, subst, arith}
+use Rattle.std.specs.Prelude.{◌&&◌, length}
 use Rattle.tl_base.specs.declared.place.Pos.{Pos}
 use Rattle.tl_base.specs.declared.place.ModuleKind.{ModuleKind}
 use Rattle.tl_base.specs.declared.place.ModuleKind.TheVariants as module_kind
@@ -11,17 +11,16 @@ use Rattle.lua_tree.specs.declared.syntax.Return.{Return}
 use Rattle.lua_tree.specs.declared.syntax.Expr.TheVariants as e
 use Rattle.lua_lexer.specs.declared.token.Keyword.TheVariants as w
 use Rattle.lua_lexer.specs.declared.token.Symbol.TheVariants as s
-use Rattle.lua_parser.specs.Words.{Word, Words, WordKind, Mark, mark, marked, symbol, keyword, named, key, sign, finish}
+use Rattle.lua_parser.specs.Words.{Word, Words, WordKind, mark, marked, symbol, keyword, named, key, sign, finish}
 use Rattle.lua_parser.specs.Grammar.Types.{opens}
 use Rattle.lua_parser.specs.Grammar.Syntax.{Enclosed, Target, block}
-use Rattle.lua_parser.specs.Machine.Plan.{Item, Plan, Reply, stuck, ends, takes, done, want, want_name, read, onward}
-use Rattle.lua_parser.specs.Machine.Steps.{is_key, is_mark, is_typed, if_name, start_stat, start_exprs, or_ends, going, block_step}
+use Rattle.lua_parser.specs.Machine.Plan.{Item, Plan, done, want, read, onward}
+use Rattle.lua_parser.specs.Machine.Steps.{is_key, is_mark, is_typed, if_name, start_stat, or_ends, going}
 use Rattle.lua_parser.specs.Machine.Run.{run}
 use Rattle.lua_parser.specs.declared.starters.Start.{Start}
 use Rattle.lua_parser.specs.declared.starters.Start.TheVariants as starts
 use Rattle.lua_parser.specs.declared.starters.Opener.{Opener}
 use Rattle.lua_parser.specs.declared.starters.Opener.TheVariants as openers
-use Rattle.lua_parser.specs.declared.starters.Starter.TheVariants as starter
 use Rattle.lua_parser.specs.declared.reader.Held.{Held}
 use Rattle.lua_parser.specs.declared.reader.Outer.{Outer}
 use Rattle.lua_parser.specs.declared.reader.Mode.TheVariants as mode
@@ -30,7 +29,7 @@ use Rattle.lua_parser.specs.declared.reader.Within.TheVariants as within
 use Rattle.lua_parser.specs.declared.reader.ListOf.TheVariants as list_of
 use Rattle.lua_parser.specs.Outcomes.{head_pos, head_is, head_opener, opener_of, starter_of, head_starter, is_starter, head_is_name}
 use Rattle.lua_parser.specs.Stacks.{OnStat, OnExpr, OnReturn, framed, listed, returned, onto, ended, is_outermost, stated, plan_at, stat_after}
-use Rattle.lua_parser.proofs.Completeness.Plans.{on, after, read_on, onward_assoc, if_false, if_true}
+use Rattle.lua_parser.proofs.Completeness.Plans.{on, after, read_on, onward_assoc, if_false}
 
 start_in : Opener → Start → Start
 start_in (openers.Plain x) y = x

@@ -1,5 +1,5 @@
 -- What the calls that read a part say of the words before and behind it.
-use Rattle.std.specs.Prelude.{◌≡◌, ℕ, ℤ, ◌<◌, length, drop, Option, Some, None, Bool, true, false, List, [], ◌∷◌, Result, Ok, Err}
+use Rattle.std.specs.Prelude.{◌≡◌, ℕ, ℤ, drop, Option, Some, None, Bool, true, false, List, [], ◌∷◌, Result, Ok, Err}
 use Rattle.tl_base.specs.declared.place.Pos.{Pos}
 use Rattle.lua_tree.specs.declared.annotation.Name.{Name}
 use Rattle.lua_tree.specs.declared.syntax.UnaryOperator.{UnaryOperator}

@@ -1,5 +1,5 @@
 -- What the reading of a module's tokens answers.
-use Rattle.std.specs.Prelude.{◌≡◌, ℕ, Bool, true, ◌∷◌, ◌++◌, [], List, length, nat_lt, if◌then◌else◌, Option, None, Result, Ok, Err}
+use Rattle.std.specs.Prelude.{◌≡◌, ℕ, Bool, true, ◌∷◌, ◌++◌, [], length, nat_lt, if◌then◌else◌, Option, None, Result, Ok, Err}
 use Rattle.tl_base.specs.declared.place.ModuleKind.{ModuleKind}
 use Rattle.tl_base.specs.declared.refusal.Refusal.{Refusal}
 use Rattle.tl_base.specs.declared.refusal.RefusalCode.{RefusalCode}

@@ -6,7 +6,6 @@ use Rattle.lua_tree.specs.declared.annotation.Typed.{Typed}
 use Rattle.lua_tree.specs.declared.annotation.TypeExpr.{TypeExpr}
 use Rattle.lua_tree.specs.declared.syntax.Rest.{Rest}
 use Rattle.lua_tree.specs.declared.syntax.Block.{Block}
-use Rattle.lua_tree.specs.declared.syntax.Clause.{Clause}
 use Rattle.lua_tree.specs.declared.syntax.Return.{Return}
 use Rattle.lua_tree.specs.declared.syntax.Entry.{Entry}
 use Rattle.lua_tree.specs.declared.syntax.Entry.TheVariants as entry
@@ -36,7 +35,6 @@ use Rattle.lua_parser.specs.declared.reader.Within.TheVariants as within
 use Rattle.lua_parser.specs.declared.reader.Called as declared_called
 use Rattle.lua_parser.specs.declared.reader.ListOf.{ListOf}
 use Rattle.lua_parser.specs.declared.reader.ListOf.TheVariants as list_of
-use Rattle.lua_parser.specs.declared.reader.TableOf.{TableOf}
 use Rattle.lua_parser.specs.declared.reader.TableOf.TheVariants as table_of
 use Rattle.lua_parser.specs.declared.reader.Table.{Table}
 use Rattle.lua_parser.specs.declared.reader.Range.{Range}

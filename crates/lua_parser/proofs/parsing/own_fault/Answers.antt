@@ -1,7 +1,5 @@
-use Rattle.std.proofs.Common.{◌≡◌, ◌∷◌, [], length, Ok, Err, Some, None, true, false, refl, sym, ap, subst, ◌∙◌, arith}
 use Rattle.lua_parser.specs.Words.{words_of}
-use Rattle.lua_parser.specs.Parsing.{IsFailure}
-use Rattle.lua_parser.proofs.Parsings.{foreign_refused, typed_refused, reached, is_module, only_tree, only_refusal}
+use Rattle.lua_parser.proofs.Parsings.{typed_refused}
 use Rattle.lua_parser.proofs.parsing.own_fault.Goals as goal
 
 pub returns-in-Ok : goal.returns-in-Ok

@@ -1,7 +1,7 @@
-use Rattle.std.proofs.Common.{◌≡◌, ◌∷◌, [], length, Ok, Err, Some, None, true, false, refl, sym, ap, subst, ◌∙◌, arith}
+use Rattle.std.proofs.Common.{Ok, Err, ap, subst, ◌∙◌}
 use Rattle.lua_parser.specs.Words.{words_of}
 use Rattle.lua_parser.specs.Parsing.{IsFailure}
-use Rattle.lua_parser.proofs.Parsings.{foreign_refused, typed_refused, reached, is_module, only_tree, only_refusal}
+use Rattle.lua_parser.proofs.Parsings.{reached, is_module, only_tree, only_refusal}
 use Rattle.lua_parser.proofs.parsing.parse.Goals as goal
 
 pub returns-in-Ok-clause-tree : goal.returns-in-Ok-clause-tree

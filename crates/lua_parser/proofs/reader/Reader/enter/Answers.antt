@@ -1,13 +1,4 @@
-use Rattle.std.proofs.Common.{◌≡◌, ◌+◌, ◌∷◌, [], length, refl, sym, ap, ◌∙◌, arith}
-use Rattle.lua_tree.specs.declared.syntax.Stat.TheVariants as stat
-use Rattle.lua_parser.specs.Words.{Words, marked, sign, key}
-use Rattle.lua_lexer.specs.declared.token.Symbol.TheVariants as s
-use Rattle.lua_lexer.specs.declared.token.Keyword.TheVariants as w
-use Rattle.lua_parser.specs.Machine.Plan.{Item, read, want}
-use Rattle.lua_parser.specs.Machine.Run.{run}
-use Rattle.lua_parser.specs.declared.reader.Frame.TheVariants as frame
-use Rattle.lua_parser.specs.declared.reader.ListOf.TheVariants as list_of
-use Rattle.lua_parser.specs.Stacks.{framed, on_stat, on_return, on_expr}
+use Rattle.std.proofs.Common.{refl, arith}
 use Rattle.lua_parser.proofs.reader.Reader.enter.Goals as goal
 
 pub returns : goal.returns

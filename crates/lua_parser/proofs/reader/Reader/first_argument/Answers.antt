@@ -1,10 +1,7 @@
-use Rattle.std.proofs.Common.{◌≡◌, ◌+◌, [], ◌∷◌, None, refl, sym, ap, length, ◌∙◌, arith}
+use Rattle.std.proofs.Common.{refl, arith}
 use Rattle.lua_lexer.specs.declared.token.Symbol.TheVariants as s
-use Rattle.lua_lexer.specs.declared.token.Keyword.TheVariants as w
-use Rattle.lua_parser.specs.Words.{sign, key}
-use Rattle.lua_parser.specs.Machine.Plan.{Item, read}
-use Rattle.lua_parser.specs.declared.reader.Mode.TheVariants as mode
-use Rattle.lua_parser.specs.Stacks.{on_stat, on_return, on_expr, called, listed, weight, weight_at, with_cursor, plan}
+use Rattle.lua_parser.specs.Words.{sign}
+use Rattle.lua_parser.specs.Stacks.{on_stat, on_return, on_expr}
 use Rattle.lua_parser.proofs.Goings.{left, first_argument_goes}
 use Rattle.lua_parser.proofs.reader.Reader.first_argument.Goals as goal
 

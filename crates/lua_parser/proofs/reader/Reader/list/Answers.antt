@@ -1,5 +1,5 @@
-use Rattle.std.proofs.Common.{◌≡◌, refl, sym, ap, length, arith}
-use Rattle.lua_parser.specs.Stacks.{on_stat, on_return, on_expr, form_of}
+use Rattle.std.proofs.Common.{refl, arith}
+use Rattle.lua_parser.specs.Stacks.{on_stat, on_return, on_expr}
 use Rattle.lua_parser.proofs.Goings.{list_goes}
 use Rattle.lua_parser.proofs.reader.Reader.list.Goals as goal
 

@@ -1,15 +1,7 @@
-use Rattle.std.proofs.Common.{◌≡◌, ◌+◌, [], ◌∷◌, None, refl, sym, ap, length, ◌∙◌, arith}
-use Rattle.lua_lexer.specs.declared.token.Symbol.TheVariants as s
-use Rattle.lua_lexer.specs.declared.token.Keyword.TheVariants as w
-use Rattle.lua_parser.specs.Words.{sign, key}
-use Rattle.lua_parser.specs.Grammar.Syntax.{Target}
+use Rattle.std.proofs.Common.{◌+◌, ap, length, arith}
 use Rattle.lua_parser.specs.Machine.Plan.{Item, read}
-use Rattle.lua_parser.specs.declared.starters.Opener.TheVariants as openers
-use Rattle.lua_parser.specs.declared.reader.Form.TheVariants as form
 use Rattle.lua_parser.specs.declared.reader.Mode.TheVariants as mode
-use Rattle.lua_parser.specs.declared.reader.Within.TheVariants as within
-use Rattle.lua_parser.specs.declared.reader.ListOf.TheVariants as list_of
-use Rattle.lua_parser.specs.Stacks.{on_stat, on_return, on_expr, form_of, listed, prefixed, assignment, onto, weight, weight_at, with_cursor, plan, begun_stat, is_outermost}
+use Rattle.lua_parser.specs.Stacks.{on_stat, weight_at, is_outermost}
 use Rattle.lua_parser.proofs.Goings.{goes_on}
 use Rattle.lua_parser.proofs.Starts.{name_goes}
 use Rattle.lua_parser.proofs.reader.Reader.name_stat.Goals as goal

@@ -1,5 +1,5 @@
 use Rattle.std.proofs.Common.{refl, ap, length, arith}
-use Rattle.lua_parser.specs.Stacks.{on_stat, on_return, on_expr, form_of}
+use Rattle.lua_parser.specs.Stacks.{on_stat, on_return, on_expr}
 use Rattle.lua_parser.proofs.Goings.{paren_begins, paren_goes}
 use Rattle.lua_parser.proofs.reader.Reader.parenthesis.Goals as goal
 

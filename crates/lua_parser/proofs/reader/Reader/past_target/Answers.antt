@@ -1,14 +1,12 @@
-use Rattle.std.proofs.Common.{◌≡◌, ◌+◌, [], ◌∷◌, refl, sym, ap, length, ◌∙◌, arith}
+use Rattle.std.proofs.Common.{◌+◌, ◌∷◌, sym, ap, length, ◌∙◌, arith}
 use Rattle.lua_lexer.specs.declared.token.Symbol.TheVariants as s
-use Rattle.lua_lexer.specs.declared.token.Keyword.TheVariants as w
-use Rattle.lua_parser.specs.Words.{sign, key}
-use Rattle.lua_parser.specs.Grammar.Syntax.{Target}
+use Rattle.lua_parser.specs.Words.{sign}
 use Rattle.lua_parser.specs.Machine.Plan.{Item, read}
 use Rattle.lua_parser.specs.declared.reader.Form.TheVariants as form
 use Rattle.lua_parser.specs.declared.reader.Mode.TheVariants as mode
 use Rattle.lua_parser.specs.declared.reader.Within.TheVariants as within
 use Rattle.lua_parser.specs.declared.reader.ListOf.TheVariants as list_of
-use Rattle.lua_parser.specs.Stacks.{on_stat, on_return, on_expr, form_of, listed, prefixed, assignment, onto, weight, weight_at, with_cursor, plan}
+use Rattle.lua_parser.specs.Stacks.{on_stat, on_return, on_expr, listed, assignment, onto, weight_at}
 use Rattle.lua_parser.proofs.Goings.{taken, left, goes_on, assign_goes, comma_goes}
 use Rattle.lua_parser.proofs.reader.Reader.past_target.Goals as goal
 
