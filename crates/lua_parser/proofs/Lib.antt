@@ -4,4 +4,8 @@ pub mod Viability
 pub mod Completeness
 pub mod Laws
 pub mod Heads
+pub mod Goings
+pub mod Starts
 pub mod TypeSteps
+pub mod Parsings
+pub mod Closings

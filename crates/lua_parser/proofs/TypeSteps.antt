@@ -22,15 +22,14 @@ use Rattle.lua_parser.specs.declared.type_parts.Items.{Items}
 use Rattle.lua_parser.specs.declared.type_parts.FieldName.{FieldName}
 use Rattle.lua_parser.specs.declared.type_parts.Named.TheVariants as named_part
 use Rattle.lua_parser.specs.declared.type_parts.Join.{Join}
-use Rattle.lua_parser.specs.declared.type_parts.Join.TheVariants as join
 use Rattle.lua_parser.specs.declared.cursor.Stop.TheVariants as stop
-use Rattle.lua_parser.specs.Words.{Word, Words, WordKind, Mark, mark, sign, key, marked, named, name_at, numeral, quoted}
+use Rattle.lua_parser.specs.Words.{Word, Words, WordKind, Mark, mark, sign, key, marked, named, name_at, quoted}
 use Rattle.lua_parser.specs.Grammar.Types.{Ending, place, InItself, InTuple, InType, field, tuple, results}
-use Rattle.lua_parser.specs.Machine.Plan.{After, ended, joined, Item, Gives, Plan, done, want, want_name, read, Reply, stuck, ends, takes}
-use Rattle.lua_parser.specs.Machine.Steps.{is_typed, if_name, if_number, if_text, is_text, paren_step, mark_number, is_mark, is_sign, union_of, tuple_then, single_result, start_plain, start_type, going, begun}
+use Rattle.lua_parser.specs.Machine.Plan.{After, ended, joined, Item, Gives, Plan, done, want, want_name, read, Reply, stuck, takes}
+use Rattle.lua_parser.specs.Machine.Steps.{is_typed, if_name, if_number, if_text, is_text, paren_step, mark_number, is_mark, union_of, tuple_then, single_result, start_plain, start_type, going, begun}
 use Rattle.lua_parser.specs.Machine.Run.{run}
-use Rattle.lua_parser.specs.Outcomes.{is_atom, head_atom, head_is, head_pos, head_name, head_number, head_text, Eats, Takes, TakesName, EatsText}
-use Rattle.lua_parser.specs.TypeReadings.{NoType, Refuses, ReadsIn, end_of_array, Encloses, ReadsNamed, rest_of_name, type_of_field, Leads, Fails, Turns, Meets, NoBar, joined_by, item_behind, rest_of_map, fields_behind}
+use Rattle.lua_parser.specs.Outcomes.{is_atom, head_atom, head_is, head_pos, head_name, head_number, head_text, Takes, TakesName}
+use Rattle.lua_parser.specs.TypeReadings.{NoType, Refuses, ReadsIn, end_of_array, Encloses, ReadsNamed, rest_of_name, type_of_field, Leads, Fails, Turns, NoBar, joined_by, item_behind, rest_of_map, fields_behind}
 use Rattle.lua_parser.proofs.Completeness.Plans.{want_on, after, run_takes, if_true, on, read_on, if_false, on_going, begins_as}
 use Rattle.lua_parser.proofs.Completeness.Firsts.{after_name}
 use Rattle.lua_parser.proofs.Completeness.Types.{named_unfold, type_unfold, tuple_unfold, results_unfold, body_results_unfold, mark_ends, name_ends, union_ends, results_end, bar_ends, body_results_end, paren_ends}

@@ -2,5 +2,7 @@ pub mod Words
 pub mod Grammar
 pub mod Machine
 pub mod Outcomes
-pub mod Readings
+pub mod Stacks
 pub mod TypeReadings
+pub mod Readings
+pub mod Parsing

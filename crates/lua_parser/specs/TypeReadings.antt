@@ -6,7 +6,6 @@ use Rattle.lua_tree.specs.declared.annotation.Name.{Name}
 use Rattle.lua_tree.specs.declared.annotation.TypeExpr.{TypeExpr}
 use Rattle.lua_tree.specs.declared.annotation.TypeExpr.TheVariants as t
 use Rattle.lua_tree.specs.declared.annotation.TypeField.{TypeField}
-use Rattle.lua_tree.specs.declared.annotation.TypeTuple.{TypeTuple}
 use Rattle.lua_tree.specs.declared.annotation.TypeResults.{TypeResults}
 use Rattle.lua_tree.specs.declared.syntax.Block.{Block}
 use Rattle.lua_lexer.specs.declared.token.Keyword.TheVariants as w
@@ -25,8 +24,8 @@ use Rattle.lua_parser.specs.declared.type_parts.Named.TheVariants as named_part
 use Rattle.lua_parser.specs.declared.type_parts.Join.{Join}
 use Rattle.lua_parser.specs.declared.type_parts.Join.TheVariants as join
 use Rattle.lua_parser.specs.Words.{WordKind, Mark, Words, marked, named, key, sign}
-use Rattle.lua_parser.specs.Grammar.Types.{InItself, InTuple, InType, field, tuple, results}
-use Rattle.lua_parser.specs.Machine.Plan.{After, ended, joined, Item, Gives, Plan, done, want, read, Reply, stuck}
+use Rattle.lua_parser.specs.Grammar.Types.{InItself, InTuple, InType, field}
+use Rattle.lua_parser.specs.Machine.Plan.{After, ended, joined, Item, Gives, Plan, want, read, stuck}
 use Rattle.lua_parser.specs.Machine.Steps.{is_typed, union_of, paren_step, tuple_then, is_text}
 use Rattle.lua_parser.specs.Machine.Run.{run}
 use Rattle.lua_parser.specs.Outcomes.{head_is, head_name, head_atom}

@@ -1,13 +1,15 @@
 ghost use Rattle.std.specs.Prelude.{◌≡◌, ◌<◌, [], ◌∷◌, ◌↔◌, IsTrue, length, drop};
 ghost use Rattle.lua_parser.specs.Words.{Words, words_of, sign, key, mark, slice_of};
 ghost use Rattle.lua_parser.specs.Machine.Steps.{binary_at};
+ghost use Rattle.lua_parser.specs.Parsing.{head_foreign};
 ghost use Rattle.lua_parser.specs.Outcomes.{head_atom, head_is, head_pos, head_number, head_unary, head_binary, Eats, Takes, EatsText, TakesName};
 
+use crate::limits::Limits;
 use lua_lexer::{Keyword, Symbol, Token, TokenKind};
 use lua_tree::{BinaryOperator, Name, UnaryOperator};
 use std::alloc::Global;
 use std::marker::Model;
-use tl_base::{Bytes, NoMemory, Pos};
+use tl_base::{Bytes, NoMemory, Pos, RefusalCode};
 
 /// Why a part isn't read.
 #[derive(Clone, Copy, Debug, PartialEq, Eq)]
@@ -15,7 +17,7 @@ pub(crate) enum Stop {
     NoMemory,
     /// No spelling goes on with the first token that is left.
     Unexpected,
-    /// Too many constructs are open.
+    /// The first token that is left is inside too many constructs, or ends an expression that is too high.
     Deep,
     /// A form that isn't read yet.
     NotBuilt,
@@ -32,13 +34,15 @@ impl From<NoMemory> for Stop {
 }
 
 /// The tokens that are left of a source. Contracts see their words.
+#[derive(Drop)]
 pub(crate) struct Cursor<'a> {
-    source: &'a [u8],
-    rest: &'a [Token],
+    pub(crate) source: &'a [u8],
+    pub(crate) rest: &'a [Token],
     /// The same from the token on that was taken last.
     last: &'a [Token],
     /// The same from the token on that was taken before that one.
     before: &'a [Token],
+    pub(crate) limits: Limits,
 }
 
 impl<'a> Model for Cursor<'a> {
@@ -54,6 +58,7 @@ impl<'a> Cursor<'a> {
         Cursor {
             source,
             rest: tokens,
+            limits: Limits::new(),
             last: tokens,
             before: tokens,
         }
@@ -64,6 +69,29 @@ impl<'a> Cursor<'a> {
         ensures { IsTrue result ↔ (self.now ≡ []) }
     {
         self.rest.is_empty()
+    }
+
+    /// How many tokens are left.
+    pub(crate) fn len(&self) -> usize
+        ensures { result ≡ length self.now }
+    {
+        self.rest.len()
+    }
+
+    /// The code of a first token that only other languages have.
+    pub(crate) fn foreign(&self) -> Option<RefusalCode>
+        ensures { result ≡ head_foreign self.now }
+    {
+        match self.rest.first() {
+            Some(token) => match &token.kind {
+                TokenKind::Sym(Symbol::Slash) => Some(RefusalCode::P2),
+                TokenKind::Sym(Symbol::Caret) => Some(RefusalCode::P2),
+                TokenKind::Word(Keyword::Goto) => Some(RefusalCode::P3),
+                TokenKind::Sym(Symbol::DoubleColon) => Some(RefusalCode::P3),
+                _ => None,
+            },
+            None => None,
+        }
     }
 
     /// Gives back the token that was taken last, at which reading stops. It can be called twice in a row.

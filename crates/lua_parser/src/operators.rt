@@ -1,5 +1,5 @@
 ghost use Rattle.std.specs.Prelude.{◌≡◌, ◌≤◌};
-ghost use Rattle.lua_parser.specs.Grammar.Levels.{level, right_level};
+ghost use Rattle.lua_parser.specs.Grammar.Levels.{level, left_level, right_level};
 
 use lua_tree::BinaryOperator;
 
@@ -51,5 +51,32 @@ pub(crate) fn right_level(operator: BinaryOperator) -> u8
         | BinaryOperator::Multiply
         | BinaryOperator::Divide
         | BinaryOperator::Modulo => level(operator) + 1,
+    }
+}
+
+/// The least level of a left operand.
+pub(crate) fn left_level(operator: BinaryOperator) -> u8
+    ensures { result ≡ left_level operator }
+{
+    match operator {
+        BinaryOperator::Concat => 9,
+        BinaryOperator::Or
+        | BinaryOperator::And
+        | BinaryOperator::Less
+        | BinaryOperator::Greater
+        | BinaryOperator::LessEqual
+        | BinaryOperator::GreaterEqual
+        | BinaryOperator::NotEqual
+        | BinaryOperator::Equal
+        | BinaryOperator::BitOr
+        | BinaryOperator::BitXor
+        | BinaryOperator::BitAnd
+        | BinaryOperator::ShiftLeft
+        | BinaryOperator::ShiftRight
+        | BinaryOperator::Add
+        | BinaryOperator::Subtract
+        | BinaryOperator::Multiply
+        | BinaryOperator::Divide
+        | BinaryOperator::Modulo => level(operator),
     }
 }

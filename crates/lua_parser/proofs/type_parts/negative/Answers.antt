@@ -1,18 +1,8 @@
-use Rattle.std.proofs.Common.{◌≡◌, ◌+◌, ◌≤◌, ◌<◌, ◌∷◌, ◌++◌, [], length, Some, None, Ok, Err, true, false, refl, sym, ap, subst, ◌∙◌, arith, inl, inr, rules, append_assoc, append-nil}
-use Rattle.std.proofs.lemmas.Result.{err_from_is_err_and}
+use Rattle.std.proofs.Common.{refl, sym, ap, ◌∙◌, rules}
 use Rattle.std.proofs.lemmas.Int.{wrapping_neg_is, to_z-of_z}
 use Rattle.std.specs.Int.{w64, int_wrapping_neg}
 use mir.Val.{SFits}
 use Rattle.lua_tree.specs.declared.annotation.TypeExpr.TheVariants as t
-use Rattle.lua_lexer.specs.declared.token.Symbol.TheVariants as s
-use Rattle.lua_lexer.specs.declared.token.Keyword.TheVariants as w
-use Rattle.lua_parser.specs.declared.cursor.Stop.TheVariants as stop
-use Rattle.lua_parser.specs.Words.{sign, key, marked, named}
-use Rattle.lua_parser.specs.Grammar.Types.{InItself, InTuple, InType, field, tuple, results}
-use Rattle.lua_parser.specs.Machine.Plan.{Item, read, want, ended, joined}
-use Rattle.lua_parser.specs.Machine.Steps.{union_of, tuple_then}
-use Rattle.lua_parser.specs.TypeReadings.{Leads, Fails, Turns, after_of, joined_by, member_of, items_of, item_behind, rest_of_name, end_of_array, type_of_field}
-use Rattle.lua_parser.specs.Outcomes.{head_is, head_name}
 use Rattle.lua_parser.proofs.TypeSteps as steps
 use Rattle.lua_parser.proofs.type_parts.negative.Goals as goal
 

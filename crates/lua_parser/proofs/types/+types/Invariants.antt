@@ -1,7 +1,7 @@
 use Rattle.std.proofs.Common.{◌+◌, ◌*◌, ◌++◌, ◌∷◌, length}
 use Rattle.lua_tree.specs.declared.annotation.TypeExpr.TheVariants as t
 use Rattle.lua_parser.specs.Grammar.Types.{tuple, results}
-use Rattle.lua_parser.specs.Machine.Plan.{Item, read, want}
+use Rattle.lua_parser.specs.Machine.Plan.{Item, read}
 use Rattle.lua_parser.specs.Machine.Steps.{tuple_then}
 use Rattle.lua_parser.specs.TypeReadings.{Leads, after_of, rest_of_union, fields_behind, item_behind}
 use Rattle.lua_parser.proofs.types.+types.Given as goal

@@ -1,0 +1,229 @@
+ghost use Rattle.std.specs.Prelude.{◌≡◌, ◌<◌, [], length, None, Err, IfOk, IfErr};
+ghost use Rattle.lua_tree.specs.declared.syntax.Block.{Block};
+ghost use Rattle.lua_parser.specs.Words.{Words, words_of};
+ghost use Rattle.lua_parser.specs.Grammar.Syntax.{SpellsChunk};
+ghost use Rattle.lua_parser.specs.Parsing.{IsModule, IsRefused, IsFailure, IsTree, IsRefusal, GoesPast, head_foreign, code_if};
+ghost use Rattle.lua_parser.specs.Machine.Run.{run};
+ghost use Rattle.tl_base.specs.declared.refusal.Refusal.{Refusal};
+ghost use Rattle.tl_base.specs.declared.place.ModuleKind.TheVariants.{Typed as typed};
+ghost use Rattle.lua_parser.specs.Machine.Run.{module_plan};
+ghost use Rattle.lua_parser.specs.Stacks.{Goes, Steps, Reaches, plan, weight};
+ghost use Rattle.lua_parser.specs.declared.reader.Mode.TheVariants as mode;
+
+use crate::blocks::block;
+use crate::cursor::{Cursor, Stop};
+use crate::reader::{Mode, Reader};
+use crate::stack::Stack;
+use lua_lexer::Token;
+use lua_tree::{Block, Chunk, Return};
+use std::alloc::Global;
+use tl_base::{Failure, List, ModuleKind, NoMemory, Refusal, RefusalCode};
+
+/// What one step of the reading gives.
+#[derive(Drop)]
+pub(crate) enum Step {
+    Next(Mode),
+    /// The module's outermost block.
+    Done(Block),
+}
+
+impl<'a> Reader<'a> {
+    /// A reader at the beginning of a module.
+    fn new(alloc: Global, kind: ModuleKind, source: &'a [u8], tokens: &'a [Token]) -> Reader<'a>
+        ensures kind { result.kind ≡ kind }
+        ensures words { result.cursor ≡ words_of source.now tokens.now }
+        ensures plan { plan result mode.Block ≡ module_plan }
+    {
+        Reader {
+            alloc,
+            kind,
+            cursor: Cursor::new(source, tokens),
+            uses: 0,
+            takes_call: false,
+            stats: Stack::new(alloc),
+            frames: Stack::new(alloc),
+            outer: Stack::new(alloc),
+        }
+    }
+
+    /// Reads on by one step.
+    fn step(&mut self, mode: Mode) -> Result<Step, Stop>
+        requires { 0 < length self.old.cursor }
+        ensures { Steps self.old mode result self.new }
+    {
+        match mode {
+            Mode::Ended(last) => self.leave(last),
+            other => self.go_on(other),
+        }
+    }
+
+    /// Reads the end of a block.
+    fn leave(&mut self, last: Option<Return>) -> Result<Step, Stop>
+        requires { 0 < length self.old.cursor }
+        ensures { Steps self.old (mode.Ended last) result self.new }
+    {
+        if self.outer.is_empty() {
+            return self.finish(last);
+        }
+        let next = self.ended(last)?;
+        Ok(Step::Next(next))
+    }
+
+    /// Reads on.
+    fn go_on(&mut self, mode: Mode) -> Result<Step, Stop>
+        requires { 0 < length self.old.cursor }
+        ensures { Steps self.old mode result self.new }
+    {
+        let next = self.next(mode)?;
+        Ok(Step::Next(next))
+    }
+
+    /// What is read next.
+    fn next(&mut self, mode: Mode) -> Result<Mode, Stop>
+        requires { 0 < length self.old.cursor }
+        ensures { Goes self.old mode result self.new }
+    {
+        match mode {
+            Mode::Block => self.block(),
+            Mode::Operand(least) => self.operand(least),
+            Mode::Operation(least, most, left) => self.operation(least, most, left),
+            Mode::Prefix(within, form, expr) => self.prefix(within, form, expr),
+            Mode::Value(expr) => self.value(expr),
+            Mode::Entries(table) => self.entries(table),
+            Mode::BehindEntry(table) => self.behind_entry(table),
+            Mode::Locals(pos, names) => self.locals(pos, names),
+            Mode::Names(pos, names, depth) => self.names(pos, names, depth),
+            Mode::Path(pos, target) => self.path(pos, target),
+            Mode::Params(header, may_end) => self.params(header, may_end),
+            Mode::Statement(stat) => self.statement(stat),
+            Mode::Ended(last) => self.ended(last),
+        }
+    }
+
+    /// Reads the end of the module.
+    fn finish(&mut self, last: Option<Return>) -> Result<Step, Stop>
+        requires { self.old.outer ≡ [] }
+        ensures { Steps self.old (mode.Ended last) result self.new }
+    {
+        self.cursor.need_end()?;
+        if !self.cursor.is_over() {
+            return Err(Stop::Unexpected);
+        }
+        let stats = self.stats.take(self.alloc);
+        Ok(Step::Done(block(stats.into_list(), last)))
+    }
+
+    /// Reads all that is left.
+    fn read(&mut self, first: Mode) -> Result<Block, Stop>
+        ensures { Reaches (plan self.old first) self.old result self.new }
+    {
+        let mut mode = first;
+        loop {
+            // no token stands behind the file's end, so this is no file's list of tokens
+            if self.cursor.is_over() {
+                return Err(Stop::NoMemory);
+            }
+            match self.step(mode)? {
+                Step::Next(next) => mode = next,
+                Step::Done(block) => return Ok(block),
+            }
+        }
+    }
+}
+
+/// The tree of a module's tokens, which are those of `source`, or the refusal at the first token with which no spelling goes on: P2 for `/` and `^`, P3 for
+/// `goto` and `::`, P5 for a token that would go on in a typed module, else P1. `module` is the file's number, which the tokens' places bear. A module with
+/// more than 200 constructs in one another, or with an expression or a type that is more than 1000 high, is answered as want of memory, and so are
+/// tokens whose last isn't `End`.
+pub fn parse(
+    alloc: Global,
+    module: u32,
+    kind: ModuleKind,
+    source: &[u8],
+    tokens: &List<Token>,
+) -> Result<Chunk, Failure>
+    ensures tree { IfOk result (λ c. IsModule «module» kind (words_of source.now tokens.now) c) }
+    ensures refused { IfErr result (λ e. IsFailure kind (words_of source.now tokens.now) e) }
+    ensures only_tree { (b : Block) → SpellsChunk kind b (words_of source.now tokens.now) → IsTree b result }
+    ensures only_refusal { (r : Refusal) → IsRefused kind (words_of source.now tokens.now) r → IsRefusal r result }
+{
+    let mut reader = Reader::new(alloc, kind, source, tokens.as_slice());
+    match reader.read(Mode::Block) {
+        Ok(body) => Ok(Chunk { module, kind, body }),
+        Err(Stop::Unexpected) => Err(fault(alloc, kind, source, tokens.as_slice(), &reader.cursor)),
+        Err(_) => Err(Failure::NoMemory),
+    }
+}
+
+/// The refusal at the first token that is left where reading stops.
+fn fault(
+    alloc: Global,
+    kind: ModuleKind,
+    source: &[u8],
+    tokens: &[Token],
+    left: &Cursor<'_>,
+) -> Failure
+    requires { run kind module_plan (words_of source.now tokens.now) ≡ Err left.now }
+    ensures { IsFailure kind (words_of source.now tokens.now) result }
+{
+    if left.is_over() {
+        return Failure::NoMemory;
+    }
+    match left.foreign() {
+        Some(code) => Failure::Refused(Refusal {
+            code,
+            pos: left.pos(),
+        }),
+        None => own_fault(alloc, kind, source, tokens, left),
+    }
+}
+
+/// The refusal at the first token that is left where reading stops, which is one that Lua has.
+fn own_fault(
+    alloc: Global,
+    kind: ModuleKind,
+    source: &[u8],
+    tokens: &[Token],
+    left: &Cursor<'_>,
+) -> Failure
+    requires stops { run kind module_plan (words_of source.now tokens.now) ≡ Err left.now }
+    requires some { left.now ≡ [] → ⊥ }
+    requires own { head_foreign left.now ≡ None }
+    ensures { IsFailure kind (words_of source.now tokens.now) result }
+{
+    match goes_on_typed(alloc, source, tokens, left.len()) {
+        Ok(goes) => Failure::Refused(Refusal {
+            code: types_code(goes),
+            pos: left.pos(),
+        }),
+        Err(NoMemory) => Failure::NoMemory,
+    }
+}
+
+/// The code of a token that would go on in a typed module, or wouldn't.
+fn types_code(goes: bool) -> RefusalCode
+    ensures { result ≡ code_if goes }
+{
+    if goes {
+        RefusalCode::P5
+    } else {
+        RefusalCode::P1
+    }
+}
+
+/// Whether the reading of a typed module leaves fewer tokens than these.
+fn goes_on_typed(
+    alloc: Global,
+    source: &[u8],
+    tokens: &[Token],
+    left: usize,
+) -> Result<bool, NoMemory>
+    ensures { IfOk result (λ goes. GoesPast left (run typed module_plan (words_of source.now tokens.now)) goes) }
+{
+    let mut reader = Reader::new(alloc, ModuleKind::Typed, source, tokens);
+    match reader.read(Mode::Block) {
+        Ok(_) => Ok(true),
+        Err(Stop::Unexpected) => Ok(reader.cursor.len() < left),
+        Err(_) => Err(NoMemory),
+    }
+}

@@ -1,0 +1,7 @@
+//! Tests of `lua_parser`, which takes too long to be proved twice.
+#![tactic(auto)]
+
+#[cfg(test)]
+mod faults;
+#[cfg(test)]
+mod shapes;
