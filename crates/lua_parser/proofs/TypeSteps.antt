@@ -447,25 +447,25 @@ enclosed_fails o a stop.NotBuilt ts h g = fails_otherwise (λ d. built d)
 
 -- ---- fields
 
-colon_goes : (x : Name) (p : Pos) (ts : Words) → Leads 1 (read (Item.rest_of_field x)) (marked (sign s.Colon) p ∷ ts) (λ k. read Item.a_type λ a. k (field false x a)) ts
+colon_goes : (x : Name) (p : Pos) (ts : Words) → Leads 1 (read (Item.rest_of_field x)) (marked (sign s.Colon) p ∷ ts) (λ k. read Item.a_type λ a. k (field x.pos false x a)) ts
 colon_goes x p ts = record { taken = omega arith; goes = λ kind k. refl }
 
-const_goes : (x y : Name) (p : Pos) (ts : Words) → is_text x.text (codes "const") ≡ true → Leads 1 (read (Item.rest_of_field x)) (named y ∷ marked (sign s.Colon) p ∷ ts) (λ k. read Item.a_type λ a. k (field true y a)) ts
+const_goes : (x y : Name) (p : Pos) (ts : Words) → is_text x.text (codes "const") ≡ true → Leads 1 (read (Item.rest_of_field x)) (named y ∷ marked (sign s.Colon) p ∷ ts) (λ k. read Item.a_type λ a. k (field x.pos true y a)) ts
 const_goes x y p ts h = record { taken = omega arith; goes = λ kind k. read_on kind (Item.rest_of_field x) k (named y) (marked (sign s.Colon) p ∷ ts) ∙ ap (λ r. on kind (named y) (marked (sign s.Colon) p ∷ ts) r k) (if_true _ _ _ h) }
 
-field_is : {from : (TypeField → P) → P} {old new : Words} (f : FieldName) (b : Bool) (x : Name) → f.is_const ≡ b → f.name ≡ x → Leads 1 from old (λ k. read Item.a_type λ a. k (field b x a)) new → Leads 1 from old (type_of_field f) new
-field_is f b x h g l = rw (h, g) l
+field_is : {from : (TypeField → P) → P} {old new : Words} (f : FieldName) (s : Pos) (b : Bool) (x : Name) → f.pos ≡ s → f.is_const ≡ b → f.name ≡ x → Leads 1 from old (λ k. read Item.a_type λ a. k (field s b x a)) new → Leads 1 from old (type_of_field f) new
+field_is f s b x i h g l = rw (i, h, g) l
 
 pub field_leads : (x : Name) (old new : Words) (f : FieldName) → ReadsNamed x old (Ok (named_part.Field f)) new → Leads 1 (read (Item.rest_of_field x)) old (type_of_field f) new
-field_leads x old new f (l, inl (p, a, b, e)) = field_is f false x a b (took e (colon_goes x p new))
-field_leads x old new f (l, inr (p, a, b, e)) = field_is f true f.name a refl (took e (const_goes x f.name p new b))
+field_leads x old new f (l, s, inl (p, a, b, e)) = field_is f x.pos false x s a b (took e (colon_goes x p new))
+field_leads x old new f (l, s, inr (p, a, b, e)) = field_is f x.pos true f.name s a refl (took e (const_goes x f.name p new b))
 
 no_field : (x : Name) (ts : Words) → head_is (sign s.Colon) ts ≡ false → (is_text x.text (codes "const") ≡ true → head_name ts ≡ None) → (kind : ModuleKind) (k : TypeField → P) → run kind (read (Item.rest_of_field x) k) ts ≡ Err ts
 no_field x [] h f kind k = refl
 no_field x (y ∷ ts) h f kind k = read_on kind (Item.rest_of_field x) k y ts ∙ ap (λ r. on kind y ts r k) (if_false _ _ _ h) ∙ go kind y.kind y.pos ts k (is_text x.text (codes "const")) f
   where
     go : (kind : ModuleKind) (c : WordKind) (q : Pos) (ts : Words) (k : TypeField → P) (b : Bool) → (b ≡ true → if_name c (λ n. Some n) None ≡ None)
-        → on kind (record { kind = c; pos = q }) ts (if_name c (λ y. if b then takes (want (sign s.Colon) λ _. read Item.a_type λ a. done (field true (name_at q y) a)) else stuck) stuck) k ≡ Err (record { kind = c; pos = q } ∷ ts)
+        → on kind (record { kind = c; pos = q }) ts (if_name c (λ y. if b then takes (want (sign s.Colon) λ _. read Item.a_type λ a. done (field x.pos true (name_at q y) a)) else stuck) stuck) k ≡ Err (record { kind = c; pos = q } ∷ ts)
     go kind (WordKind.name n) q ts k true f = let d = f refl in cc
     go kind (WordKind.name n) q ts k false f = refl
     go kind (WordKind.number n) q ts k b f = refl
@@ -476,7 +476,7 @@ pub other_fails : (x y : Name) (old new : Words) → ReadsNamed x old (Ok (named
 other_fails x y old new h = fails_here h.1 (no_field x old h.2 h.3)
 
 const_stops : (x y : Name) (old new : Words) → is_text x.text (codes "const") ≡ true → head_is (sign s.Colon) new ≡ false → (kind : ModuleKind) (k : TypeField → P) → run kind (read (Item.rest_of_field x) k) (named y ∷ new) ≡ Err new
-const_stops x y old new h g kind k = read_on kind (Item.rest_of_field x) k (named y) new ∙ ap (λ r. on kind (named y) new r k) (if_true _ _ _ h) ∙ (want_fails (sign s.Colon) (λ (k : TypeField → P) _. read Item.a_type λ a. k (field true y a)) (leads_same (λ k. want (sign s.Colon) λ _. read Item.a_type λ a. k (field true y a)) new) (refl, refl, g)).stops refl kind k
+const_stops x y old new h g kind k = read_on kind (Item.rest_of_field x) k (named y) new ∙ ap (λ r. on kind (named y) new r k) (if_true _ _ _ h) ∙ (want_fails (sign s.Colon) (λ (k : TypeField → P) _. read Item.a_type λ a. k (field x.pos true y a)) (leads_same (λ k. want (sign s.Colon) λ _. read Item.a_type λ a. k (field x.pos true y a)) new) (refl, refl, g)).stops refl kind k
 
 pub field_fails : (x : Name) (e : Stop) (old new : Words) → ReadsNamed x old (Err e) new → Fails (read (Item.rest_of_field x)) old e new
 field_fails x stop.Unexpected old new h = record { stops = λ d kind k. ap (run kind (read (Item.rest_of_field x) k)) h.2 ∙ const_stops x h.0 old new h.1 h.3 kind k }
@@ -565,7 +565,7 @@ abbrev pub fields_with : List TypeField → (List TypeField → P) → List Type
 fields_with xs k fs = k (xs ++ fs)
 
 abbrev pub typed_field : FieldName → List TypeField → (List TypeField → P) → TypeExpr → P
-typed_field f xs k a = read Item.more_of_fields λ fs. k (xs ++ field f.is_const f.name a ∷ fs)
+typed_field f xs k a = read Item.more_of_fields λ fs. k (xs ++ field f.pos f.is_const f.name a ∷ fs)
 
 abbrev pub then_fields : (List TypeField → P) → TypeField → P
 then_fields k f = read Item.more_of_fields λ fs. k (f ∷ fs)
@@ -661,22 +661,22 @@ field_after x k = read (Item.rest_of_field x) (then_fields k)
 
 -- ---- a name in braces
 
-const_step : (o : Pos) (x y : Name) (p : Pos) (ts : Words) → is_text x.text (codes "const") ≡ true → Leads 1 (read (Item.named_in_braces o x)) (named y ∷ marked (sign s.Colon) p ∷ ts) (λ k. read Item.a_type λ a. read Item.more_of_fields λ fs. as_record o k (field true y a ∷ fs)) ts
+const_step : (o : Pos) (x y : Name) (p : Pos) (ts : Words) → is_text x.text (codes "const") ≡ true → Leads 1 (read (Item.named_in_braces o x)) (named y ∷ marked (sign s.Colon) p ∷ ts) (λ k. read Item.a_type λ a. read Item.more_of_fields λ fs. as_record o k (field x.pos true y a ∷ fs)) ts
 const_step o x y p ts h = record { taken = omega arith; goes = λ kind k. read_on kind (Item.named_in_braces o x) k (named y) (marked (sign s.Colon) p ∷ ts) ∙ ap (λ r. on kind (named y) (marked (sign s.Colon) p ∷ ts) r k) (if_true _ _ _ h) }
 
-colon_step : (o : Pos) (x : Name) (p : Pos) (ts : Words) → Leads 1 (read (Item.named_in_braces o x)) (marked (sign s.Colon) p ∷ ts) (λ k. read Item.a_type λ a. read Item.more_of_fields λ fs. as_record o k (field false x a ∷ fs)) ts
+colon_step : (o : Pos) (x : Name) (p : Pos) (ts : Words) → Leads 1 (read (Item.named_in_braces o x)) (marked (sign s.Colon) p ∷ ts) (λ k. read Item.a_type λ a. read Item.more_of_fields λ fs. as_record o k (field x.pos false x a ∷ fs)) ts
 colon_step o x p ts = record { taken = omega arith; goes = λ kind k. refl }
 
-fields_are : {from : (TypeExpr → P) → P} {old new : Words} (o : Pos) (f : FieldName) (b : Bool) (x : Name) → f.is_const ≡ b → f.name ≡ x → Leads 1 from old (λ k. read Item.a_type λ a. read Item.more_of_fields λ fs. as_record o k (field b x a ∷ fs)) new → Leads 1 from old (λ k. fields_behind f (as_record o k)) new
-fields_are o f b x h g l = rw (h, g) l
+fields_are : {from : (TypeExpr → P) → P} {old new : Words} (o : Pos) (f : FieldName) (s : Pos) (b : Bool) (x : Name) → f.pos ≡ s → f.is_const ≡ b → f.name ≡ x → Leads 1 from old (λ k. read Item.a_type λ a. read Item.more_of_fields λ fs. as_record o k (field s b x a ∷ fs)) new → Leads 1 from old (λ k. fields_behind f (as_record o k)) new
+fields_are o f s b x i h g l = rw (i, h, g) l
 
 pub named_field_leads : (o : Pos) (x : Name) (old new : Words) (f : FieldName) → ReadsNamed x old (Ok (named_part.Field f)) new → Leads 1 (read (Item.named_in_braces o x)) old (λ k. fields_behind f (as_record o k)) new
-named_field_leads o x old new f (l, inl (p, a, b, e)) = fields_are o f false x a b (took e (colon_step o x p new))
-named_field_leads o x old new f (l, inr (p, a, b, e)) = fields_are o f true f.name a refl (took e (const_step o x f.name p new b))
+named_field_leads o x old new f (l, s, inl (p, a, b, e)) = fields_are o f x.pos false x s a b (took e (colon_step o x p new))
+named_field_leads o x old new f (l, s, inr (p, a, b, e)) = fields_are o f x.pos true f.name s a refl (took e (const_step o x f.name p new b))
 
 named_const_stops : (o : Pos) (x y : Name) (new : Words) → is_text x.text (codes "const") ≡ true → head_is (sign s.Colon) new ≡ false → (kind : ModuleKind) (k : TypeExpr → P) → run kind (read (Item.named_in_braces o x) k) (named y ∷ new) ≡ Err new
 named_const_stops o x y new h g kind k = read_on kind (Item.named_in_braces o x) k (named y) new ∙ ap (λ r. on kind (named y) new r k) (if_true _ _ _ h)
-    ∙ (want_fails (sign s.Colon) (λ (k : TypeExpr → P) _. read Item.a_type λ a. read Item.more_of_fields λ fs. as_record o k (field true y a ∷ fs)) (leads_same (λ k. want (sign s.Colon) λ _. read Item.a_type λ a. read Item.more_of_fields λ fs. as_record o k (field true y a ∷ fs)) new) (refl, refl, g)).stops refl kind k
+    ∙ (want_fails (sign s.Colon) (λ (k : TypeExpr → P) _. read Item.a_type λ a. read Item.more_of_fields λ fs. as_record o k (field x.pos true y a ∷ fs)) (leads_same (λ k. want (sign s.Colon) λ _. read Item.a_type λ a. read Item.more_of_fields λ fs. as_record o k (field x.pos true y a ∷ fs)) new) (refl, refl, g)).stops refl kind k
 
 pub named_fails : (o : Pos) (x : Name) (e : Stop) (old new : Words) → ReadsNamed x old (Err e) new → Fails (read (Item.named_in_braces o x)) old e new
 named_fails o x stop.Unexpected old new h = record { stops = λ d kind k. ap (run kind (read (Item.named_in_braces o x) k)) h.2 ∙ named_const_stops o x h.0 new h.1 h.3 kind k }
@@ -790,7 +790,7 @@ abbrev pub field_with : List TypeField → (List TypeField → P) → TypeField 
 field_with xs k = next_of_interface (fields_with xs k)
 
 abbrev pub typed_with : List TypeField → FieldName → (List TypeField → P) → TypeExpr → P
-typed_with xs f k a = next_of_interface (fields_with xs k) (field f.is_const f.name a)
+typed_with xs f k a = next_of_interface (fields_with xs k) (field f.pos f.is_const f.name a)
 
 pub separated : {from : (List TypeField → P) → P} {m : ℕ} {old new : Words} (xs all : List TypeField) (x y : TypeField) → Leads m from old (λ k. next_of_interface (fields_with xs k) x) new → y ≡ x → all ≡ xs ++ y ∷ [] → Leads m from old (λ k. read Item.maybe_separator (behind_separator all k)) new
 separated {new = new} xs all x y f g h = let e : all ≡ xs ++ x ∷ [] = h ∙ ap (λ z. xs ++ z ∷ []) g in record { taken = f.taken; goes = λ kind k. f.goes kind k ∙ ap (λ q. run kind (read Item.maybe_separator q) new) (λ i u. read Item.fields_of_interface (λ fs. k (appended xs all x e fs i))) }

@@ -155,7 +155,7 @@ rest_of_map p k = read Item.a_type λ x. want (sign s.CloseBracket) λ _. want (
 
 -- the fields of a record, behind the name of the first
 abbrev pub fields_behind : FieldName → (List TypeField → Plan Block) → Plan Block
-fields_behind f k = read Item.a_type λ a. read Item.more_of_fields λ fs. k (field f.is_const f.name a ∷ fs)
+fields_behind f k = read Item.a_type λ a. read Item.more_of_fields λ fs. k (field f.pos f.is_const f.name a ∷ fs)
 
 -- one more field of a record, read up to its type, or none
 abbrev pub next_of_fields : Option FieldName → (List TypeField → Plan Block) → Plan Block
@@ -164,7 +164,7 @@ next_of_fields None k = k []
 
 -- a field that is read up to its type
 abbrev pub type_of_field : FieldName → (TypeField → Plan Block) → Plan Block
-type_of_field f k = read Item.a_type λ a. k (field f.is_const f.name a)
+type_of_field f k = read Item.a_type λ a. k (field f.pos f.is_const f.name a)
 
 -- the type in parentheses, where one type stands in them and nothing else
 abbrev pub Encloses : Pos → Items → Result TypeExpr Stop → Type 0
@@ -180,7 +180,7 @@ Builds x (Err e) = Unit {0}
 
 -- A name is read on as a field's, or not.
 abbrev pub ReadsNamed : Name → Words → Result Named Stop → Words → Type 0
-ReadsNamed x old (Ok (named_part.Field f)) new = (length new + 1 ≤ length old) × (((p : Pos) × (f.is_const ≡ false) × (f.name ≡ x) × (old ≡ marked (sign s.Colon) p ∷ new)) ⊎ ((p : Pos) × (f.is_const ≡ true) × (is_text x.text (codes "const") ≡ true) × (old ≡ named f.name ∷ marked (sign s.Colon) p ∷ new)))
+ReadsNamed x old (Ok (named_part.Field f)) new = (length new + 1 ≤ length old) × (f.pos ≡ x.pos) × (((p : Pos) × (f.is_const ≡ false) × (f.name ≡ x) × (old ≡ marked (sign s.Colon) p ∷ new)) ⊎ ((p : Pos) × (f.is_const ≡ true) × (is_text x.text (codes "const") ≡ true) × (old ≡ named f.name ∷ marked (sign s.Colon) p ∷ new)))
 ReadsNamed x old (Ok (named_part.Other y)) new = (y ≡ x) × (new ≡ old) × (head_is (sign s.Colon) old ≡ false) × (is_text x.text (codes "const") ≡ true → head_name old ≡ None)
 ReadsNamed x old (Err stop.Unexpected) new = (y : Name) × (is_text x.text (codes "const") ≡ true) × (old ≡ named y ∷ new) × (head_is (sign s.Colon) new ≡ false)
 ReadsNamed x old (Err e) new = Unit {0}

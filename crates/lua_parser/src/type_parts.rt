@@ -157,6 +157,8 @@ pub(crate) struct Returned {
 /// A field as far as it stands before its type.
 #[derive(Drop)]
 pub(crate) struct FieldName {
+    /// that of its first token
+    pub(crate) pos: Pos,
     pub(crate) is_const: bool,
     pub(crate) name: Name,
 }
@@ -412,9 +414,10 @@ pub(crate) fn tuple_of(types: Items) -> TypeTuple
 
 /// The field of a name and a type.
 pub(crate) fn field_of(start: FieldName, ty: TypeExpr) -> TypeField
-    ensures { result ≡ field start.is_const start.name ty }
+    ensures { result ≡ field start.pos start.is_const start.name ty }
 {
     TypeField {
+        pos: start.pos,
         is_const: start.is_const,
         name: start.name,
         ty,
@@ -485,6 +488,7 @@ pub(crate) fn field_or_other(
 {
     if cursor.eat(Symbol::Colon) {
         return Ok(Named::Field(FieldName {
+            pos: name.pos,
             is_const: false,
             name,
         }));
@@ -496,6 +500,7 @@ pub(crate) fn field_or_other(
         Some(second) => {
             cursor.want(Symbol::Colon)?;
             Ok(Named::Field(FieldName {
+                pos: name.pos,
                 is_const: true,
                 name: second,
             }))

@@ -41,10 +41,11 @@ pub enum TypeExpr {
     Union(Pos, List<TypeExpr>),
 }
 
-/// A field of a record or of an interface.
+/// A field of a record or of an interface, with the place of its first token, which is `const` or the name.
 #[cycle(types)]
 #[derive(Drop)]
 pub struct TypeField {
+    pub pos: Pos,
     pub is_const: bool,
     pub name: Name,
     pub ty: TypeExpr,

@@ -179,6 +179,7 @@ fn a_tree_of_each_statement(rt: HostRuntime) -> Result<(), Fail> {
 
 fn fields(rt: &HostRuntime) -> Result<List<TypeField>, Fail> {
     let field = TypeField {
+        pos: at(2),
         is_const: true,
         name: name(rt, "f")?,
         ty: TypeExpr::Bool(at(3), false),

@@ -9,6 +9,16 @@ use crate::{NoMemory, Pos};
 pub enum RefusalCode {
     /// a form of module that isn't built yet
     X1,
+    /// a module that isn't given, at a call of `require` or a type name
+    G1,
+    /// modules that require one another in a circle
+    G2,
+    /// a file whose module has the name of an earlier one's
+    G3,
+    /// more than 256 files, or more than 16777216 bytes in all of them
+    G4,
+    /// a file word that ends in neither `.tl` nor `.lua`
+    G5,
     /// a file that is missing
     G6,
     /// a byte that begins no token
@@ -47,14 +57,50 @@ pub enum RefusalCode {
     S7,
     /// `...` in a function without `...`
     S8,
-    /// a call of `require` for a module that isn't given
-    G1,
+    /// a type that is too large or too deep
+    Y1,
+    /// a type name that isn't known
+    Y2,
+    /// a field or a type name that is declared twice
+    Y3,
+    /// a type that no key can have
+    Y4,
+    /// an alias that leads to itself
+    Y5,
     /// a value that doesn't flow to its place
     F1,
     /// an operand that the operation doesn't take
     F2,
+    /// a call of what is no function
+    F3,
+    /// a field that the table doesn't have
+    F4,
+    /// a store into a `const` field
+    F5,
+    /// an assignment to a local whose table is followed
+    F6,
+    /// a class whose field doesn't fit
+    F7,
+    /// a key that doesn't fit
+    F8,
+    /// a local without a value
+    F9,
+    /// `setmetatable` or `rawset` on a typed table
+    F10,
+    /// a constructor of several forms
+    F11,
+    /// a union that was not narrowed
+    F12,
+    /// a module that may give `nil`
+    F13,
     /// an operand of type `value`
     F14,
+    /// values in a row that don't fit
+    F15,
+    /// an iterator that is no function
+    F16,
+    /// a table that can't be seen as the type that is asked for
+    F17,
 }
 
 impl RefusalCode {
@@ -64,6 +110,11 @@ impl RefusalCode {
     {
         match self {
             RefusalCode::X1 => "X1",
+            RefusalCode::G1 => "G1",
+            RefusalCode::G2 => "G2",
+            RefusalCode::G3 => "G3",
+            RefusalCode::G4 => "G4",
+            RefusalCode::G5 => "G5",
             RefusalCode::G6 => "G6",
             RefusalCode::L1 => "L1",
             RefusalCode::L2 => "L2",
@@ -83,10 +134,28 @@ impl RefusalCode {
             RefusalCode::S6 => "S6",
             RefusalCode::S7 => "S7",
             RefusalCode::S8 => "S8",
-            RefusalCode::G1 => "G1",
+            RefusalCode::Y1 => "Y1",
+            RefusalCode::Y2 => "Y2",
+            RefusalCode::Y3 => "Y3",
+            RefusalCode::Y4 => "Y4",
+            RefusalCode::Y5 => "Y5",
             RefusalCode::F1 => "F1",
             RefusalCode::F2 => "F2",
+            RefusalCode::F3 => "F3",
+            RefusalCode::F4 => "F4",
+            RefusalCode::F5 => "F5",
+            RefusalCode::F6 => "F6",
+            RefusalCode::F7 => "F7",
+            RefusalCode::F8 => "F8",
+            RefusalCode::F9 => "F9",
+            RefusalCode::F10 => "F10",
+            RefusalCode::F11 => "F11",
+            RefusalCode::F12 => "F12",
+            RefusalCode::F13 => "F13",
             RefusalCode::F14 => "F14",
+            RefusalCode::F15 => "F15",
+            RefusalCode::F16 => "F16",
+            RefusalCode::F17 => "F17",
         }
     }
 }

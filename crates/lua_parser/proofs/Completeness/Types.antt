@@ -280,13 +280,13 @@ module _ (kind : ModuleKind) where
 
     field_begins : {f : TypeField} {ts : Words} → SpellsField f ts → {A : Type 0} (p : Pos) (k : TypeExpr → Plan A) (y : Word) (us : Words) → TypeEnd y.kind
         → run kind (read (Item.in_braces p) k) (ts ++ y ∷ us) ≡ run kind (read Item.more_of_fields λ fs. k (t.Record p (f ∷ fs))) (y ∷ us)
-    field_begins (SpellsField.plain_field n q d) p k y us h = type_reads d (λ a. read Item.more_of_fields λ fs. k (t.Record p (field false n a ∷ fs))) y us h
-    field_begins (SpellsField.const_field o n q d) p k y us h = type_reads d (λ a. read Item.more_of_fields λ fs. k (t.Record p (field true n a ∷ fs))) y us h
+    field_begins (SpellsField.plain_field n q d) p k y us h = type_reads d (λ a. read Item.more_of_fields λ fs. k (t.Record p (field n.pos false n a ∷ fs))) y us h
+    field_begins (SpellsField.const_field o n q d) p k y us h = type_reads d (λ a. read Item.more_of_fields λ fs. k (t.Record p (field o true n a ∷ fs))) y us h
 
     next_field_reads : {f : TypeField} {ts : Words} → SpellsField f ts → {A : Type 0} (k : List TypeField → Plan A) (y : Word) (us : Words) → TypeEnd y.kind
         → run kind (read Item.next_field k) (ts ++ y ∷ us) ≡ run kind (read Item.more_of_fields λ fs. k (f ∷ fs)) (y ∷ us)
-    next_field_reads (SpellsField.plain_field n q d) k y us h = type_reads d (λ a. read Item.more_of_fields λ fs. k (field false n a ∷ fs)) y us h
-    next_field_reads (SpellsField.const_field o n q d) k y us h = type_reads d (λ a. read Item.more_of_fields λ fs. k (field true n a ∷ fs)) y us h
+    next_field_reads (SpellsField.plain_field n q d) k y us h = type_reads d (λ a. read Item.more_of_fields λ fs. k (field n.pos false n a ∷ fs)) y us h
+    next_field_reads (SpellsField.const_field o n q d) k y us h = type_reads d (λ a. read Item.more_of_fields λ fs. k (field o true n a ∷ fs)) y us h
 
     tuple_reads : {xs : List TypeExpr} {rest : Option TypeExpr} {ts : Words} → SpellsTuple xs rest ts → {A : Type 0} (k : List TypeExpr × Option TypeExpr → Plan A) (q : Pos) (us : Words)
         → run kind (read Item.a_tuple k) (ts ++ symbol s.CloseParen q ∷ us) ≡ run kind (k (xs, rest)) (symbol s.CloseParen q ∷ us)
@@ -364,8 +364,8 @@ module _ (kind : ModuleKind) where
 
   interface_field : {f : TypeField} {ts : Words} → SpellsField f ts → {A : Type 0} (k : List TypeField → Plan A) (y : Word) (us : Words) → TypeEnd y.kind
       → run kind (read Item.fields_of_interface k) (ts ++ y ∷ us) ≡ run kind (read Item.maybe_separator λ _. read Item.fields_of_interface λ fs. k (f ∷ fs)) (y ∷ us)
-  interface_field (SpellsField.plain_field n q d) k y us h = type_reads d (λ a. read Item.maybe_separator λ _. read Item.fields_of_interface λ fs. k (field false n a ∷ fs)) y us h
-  interface_field (SpellsField.const_field o n q d) k y us h = type_reads d (λ a. read Item.maybe_separator λ _. read Item.fields_of_interface λ fs. k (field true n a ∷ fs)) y us h
+  interface_field (SpellsField.plain_field n q d) k y us h = type_reads d (λ a. read Item.maybe_separator λ _. read Item.fields_of_interface λ fs. k (field n.pos false n a ∷ fs)) y us h
+  interface_field (SpellsField.const_field o n q d) k y us h = type_reads d (λ a. read Item.maybe_separator λ _. read Item.fields_of_interface λ fs. k (field o true n a ∷ fs)) y us h
 
   pub interface_reads : {fs : List TypeField} {ts : Words} → SpellsInterface fs ts → {A : Type 0} (k : List TypeField → Plan A) (z : Pos) (us : Words) → run kind (read Item.fields_of_interface k) (ts ++ keyword w.End z ∷ us) ≡ run kind (k fs) us
   interface_reads SpellsInterface.no_fields k z us = refl

@@ -229,9 +229,9 @@ module _ (kind : ModuleKind) where
 
   pub meets_named_in_braces : (o : Pos) (x : Name) (p : Pos) (k : WordKind) → Meets kind (Means kind (Item.named_in_braces o x)) (at p k) (types_step kind (Item.named_in_braces o x) p k)
   meets_named_in_braces o x p k =
-      meets_if kind (Means kind (Item.named_in_braces o x)) (sign s.Colon) p k _ _ (λ a us n fs ts l. rw append-nil (SpellsSimple.record_type o (l (field false x a) _ (SpellsField.plain_field x p n))))
+      meets_if kind (Means kind (Item.named_in_braces o x)) (sign s.Colon) p k _ _ (λ a us n fs ts l. rw append-nil (SpellsSimple.record_type o (l (field x.pos false x a) _ (SpellsField.plain_field x p n))))
       (meets_name kind (Means kind (Item.named_in_braces o x)) p k _ _ (λ y. meets_either kind (Means kind (Item.named_in_braces o x)) _ _ _ _
-      (λ h. meets_takes kind (Means kind (Item.named_in_braces o x)) _ _ (λ q a us n fs ts l. rw (append-nil, text_is x (codes "const") h) (SpellsSimple.record_type o (l (field true (name_at p y) a) _ (SpellsField.const_field x.pos (name_at p y) q n)))))
+      (λ h. meets_takes kind (Means kind (Item.named_in_braces o x)) _ _ (λ q a us n fs ts l. rw (append-nil, text_is x (codes "const") h) (SpellsSimple.record_type o (l (field x.pos true (name_at p y) a) _ (SpellsField.const_field x.pos (name_at p y) q n)))))
       (λ h. meets_stuck kind _ _))
       (meets_both kind (Means kind (Item.named_in_braces o x)) (Means kind (Item.more_of_name x.text)) (at p k) _ _ _ (meets_dotted x.text p k)
       (λ d n. meets_both kind (Means kind (Item.named_in_braces o x)) (Means kind (Item.maybe_mark (t.Named x.pos d.0 d.1))) (at p k) _ _ _ (meets_mark (t.Named x.pos d.0 d.1) p k)

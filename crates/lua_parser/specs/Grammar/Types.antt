@@ -28,8 +28,8 @@ place (Optional' p c e) = p
 place (Function' p c a d r) = p
 place (Union' p c e) = p
 
-abbrev pub field : Bool → Name → TypeExpr → TypeField
-field c x ty = roll-TypeField (record { is_const = c; name = x; ty = ty })
+abbrev pub field : Pos → Bool → Name → TypeExpr → TypeField
+field p c x ty = roll-TypeField (record { pos = p; is_const = c; name = x; ty = ty })
 
 abbrev pub tuple : List TypeExpr → Option TypeExpr → TypeTuple
 tuple items tail = roll-TypeTuple (record { items = items; tail = tail })
@@ -102,8 +102,8 @@ mutual
 
   -- `const` marks a field where a name follows
   pub data SpellsField : TypeField → Words → Type 0 where
-    plain_field : {x : TypeExpr} {ts : Words} (n : Name) (q : Pos) → SpellsType x ts → SpellsField (field false n x) (named n ∷ symbol s.Colon q ∷ ts)
-    const_field : {x : TypeExpr} {ts : Words} (p : Pos) (n : Name) (q : Pos) → SpellsType x ts → SpellsField (field true n x) (named (name_at p (codes "const")) ∷ named n ∷ symbol s.Colon q ∷ ts)
+    plain_field : {x : TypeExpr} {ts : Words} (n : Name) (q : Pos) → SpellsType x ts → SpellsField (field n.pos false n x) (named n ∷ symbol s.Colon q ∷ ts)
+    const_field : {x : TypeExpr} {ts : Words} (p : Pos) (n : Name) (q : Pos) → SpellsType x ts → SpellsField (field p true n x) (named (name_at p (codes "const")) ∷ named n ∷ symbol s.Colon q ∷ ts)
 
   pub data SpellsTuple : List TypeExpr → Option TypeExpr → Words → Type 0 where
     no_items : SpellsTuple [] None []

@@ -233,8 +233,8 @@ single_result x = results (type.place x) (tuple (x ∷ []) None ∷ [])
 
 abbrev pub field_step : Name → Pos → WordKind → Reply TypeField
 field_step x p k =
-    if is_sign s.Colon k then takes (read Item.a_type λ a. done (field false x a))
-    else if_name k (λ y. if is_text x.text (codes "const") then takes (want (sign s.Colon) λ _. read Item.a_type λ a. done (field true (name_at p y) a)) else stuck) stuck
+    if is_sign s.Colon k then takes (read Item.a_type λ a. done (field x.pos false x a))
+    else if_name k (λ y. if is_text x.text (codes "const") then takes (want (sign s.Colon) λ _. read Item.a_type λ a. done (field x.pos true (name_at p y) a)) else stuck) stuck
 
 abbrev pub types_step : ModuleKind → (j : Item) → Pos → WordKind → Reply (Gives j)
 types_step kind Item.a_type p k = begun (start_type p k)
@@ -269,9 +269,9 @@ types_step kind (Item.in_braces o) p k =
     else (if is_sign s.OpenBracket k then takes (read Item.a_type λ x. want (sign s.CloseBracket) λ _. want (sign s.Colon) λ _. read Item.a_type λ y. want (sign s.CloseBrace) λ _. done (t.Map o x y))
     else if_name k (λ x. takes (read (Item.named_in_braces o (name_at p x)) done)) (begun (going (start_type p k) (λ x. want (sign s.CloseBrace) λ _. done (t.Array o x)))))
 types_step kind (Item.named_in_braces o x) p k =
-    if is_sign s.Colon k then takes (read Item.a_type λ a. read Item.more_of_fields λ fs. done (t.Record o (field false x a ∷ fs)))
+    if is_sign s.Colon k then takes (read Item.a_type λ a. read Item.more_of_fields λ fs. done (t.Record o (field x.pos false x a ∷ fs)))
     else if_name k
-    (λ y. if is_text x.text (codes "const") then takes (want (sign s.Colon) λ _. read Item.a_type λ a. read Item.more_of_fields λ fs. done (t.Record o (field true (name_at p y) a ∷ fs))) else stuck)
+    (λ y. if is_text x.text (codes "const") then takes (want (sign s.Colon) λ _. read Item.a_type λ a. read Item.more_of_fields λ fs. done (t.Record o (field x.pos true (name_at p y) a ∷ fs))) else stuck)
     (both (name_step x.text k)
     (λ d. both (mark_step (t.Named x.pos d.0 d.1) k)
     (λ a. both (member_step (ended InItself) p k) (λ xs. if is_sign s.CloseBrace k then takes (done (t.Array o (union_of a xs))) else stuck) (λ xs. want (sign s.CloseBrace) λ _. done (t.Array o (union_of a xs))))
