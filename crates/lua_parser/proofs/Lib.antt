@@ -9,3 +9,4 @@ pub mod Starts
 pub mod TypeSteps
 pub mod Parsings
 pub mod Closings
+pub mod Parts

@@ -6,3 +6,4 @@ pub mod Stacks
 pub mod TypeReadings
 pub mod Readings
 pub mod Parsing
+pub mod Parts

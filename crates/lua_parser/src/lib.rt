@@ -24,4 +24,5 @@ mod types;
 pub use parsing::parse;
 pub use theorems::{
     at_most_one_fault, at_most_one_tree, no_fault_in_a_tree, one_code, tree_or_fault,
+    uses_are_numbered,
 };

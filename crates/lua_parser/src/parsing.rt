@@ -1,8 +1,10 @@
-ghost use Rattle.std.specs.Prelude.{◌≡◌, ◌<◌, [], length, None, Err, IfOk, IfErr};
+ghost use Rattle.std.specs.Prelude.{◌≡◌, ℕ, ◌<◌, ◌≤◌, [], length, None, Err, IfOk, IfErr};
 ghost use Rattle.lua_tree.specs.declared.syntax.Block.{Block};
 ghost use Rattle.lua_parser.specs.Words.{Words, words_of};
 ghost use Rattle.lua_parser.specs.Grammar.Syntax.{SpellsChunk};
 ghost use Rattle.lua_parser.specs.Parsing.{IsModule, IsRefused, IsFailure, IsTree, IsRefusal, GoesPast, head_foreign, code_if};
+ghost use Rattle.lua_parser.specs.Parts.{parts_of, AreNumbered};
+ghost use Rattle.lua_lexer.specs.Tokens.{Lexed};
 ghost use Rattle.lua_parser.specs.Machine.Run.{run};
 ghost use Rattle.tl_base.specs.declared.refusal.Refusal.{Refusal};
 ghost use Rattle.tl_base.specs.declared.place.ModuleKind.TheVariants.{Typed as typed};
@@ -134,7 +136,7 @@ impl<'a> Reader<'a> {
 /// The tree of a module's tokens, which are those of `source`, or the refusal at the first token with which no spelling goes on: P2 for `/` and `^`, P3 for
 /// `goto` and `::`, P5 for a token that would go on in a typed module, else P1. `module` is the file's number, which the tokens' places bear. A module with
 /// more than 200 constructs in one another, or with an expression or a type that is more than 1000 high, is answered as want of memory, and so are
-/// tokens whose last isn't `End`.
+/// tokens whose last isn't `End`. The uses of names are numbered from 0 on in order of place.
 pub fn parse(
     alloc: Global,
     module: u32,
@@ -146,6 +148,9 @@ pub fn parse(
     ensures refused { IfErr result (λ e. IsFailure kind (words_of source.now tokens.now) e) }
     ensures only_tree { (b : Block) → SpellsChunk kind b (words_of source.now tokens.now) → IsTree b result }
     ensures only_refusal { (r : Refusal) → IsRefused kind (words_of source.now tokens.now) r → IsRefusal r result }
+    ensures numbered { IfOk result (λ c. AreNumbered 0 (parts_of c.body)) }
+    ensures fewer { IfOk result (λ c. length (parts_of c.body) < length tokens.now) }
+    ensures few { (m : ℕ) → Lexed m source.now tokens.now → IfOk result (λ c. length (parts_of c.body) ≤ length source.now) }
 {
     let mut reader = Reader::new(alloc, kind, source, tokens.as_slice());
     match reader.read(Mode::Block) {

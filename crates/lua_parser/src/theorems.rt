@@ -1,12 +1,13 @@
 //! Laws of the grammar, which no program calls.
 
-ghost use Rattle.std.specs.Prelude.{◌≡◌, ◌⊎◌, ◌∷◌};
+ghost use Rattle.std.specs.Prelude.{◌≡◌, ◌<◌, ◌⊎◌, ◌∷◌, length};
 ghost use Rattle.tl_base.specs.declared.place.ModuleKind.{ModuleKind};
 ghost use Rattle.tl_base.specs.declared.refusal.RefusalCode.{RefusalCode};
 ghost use Rattle.lua_tree.specs.declared.syntax.Block.{Block};
 ghost use Rattle.lua_parser.specs.Words.{Word, Words};
 ghost use Rattle.lua_parser.specs.Grammar.Syntax.{SpellsChunk};
 ghost use Rattle.lua_parser.specs.Grammar.Fault.{FaultAt, HasCode};
+ghost use Rattle.lua_parser.specs.Parts.{parts_of, AreNumbered};
 
 /// Words spell at most one tree.
 pub fn at_most_one_tree()
@@ -32,4 +33,10 @@ pub fn at_most_one_fault()
 pub fn one_code()
     ensures code { (front : Words) (x : Word) (rest : Words) → (c : RefusalCode) × HasCode front (x ∷ rest) c }
     ensures no_other { (front rest : Words) (c d : RefusalCode) → HasCode front rest c → HasCode front rest d → c ≡ d }
+{}
+
+/// The uses of names in a spelled tree are numbered from 0 on in order of place, and it has together fewer uses, locals and function bodies than words.
+pub fn uses_are_numbered()
+    ensures numbered { (kind : ModuleKind) (ts : Words) (b : Block) → SpellsChunk kind b ts → AreNumbered 0 (parts_of b) }
+    ensures fewer { (kind : ModuleKind) (ts : Words) (b : Block) → SpellsChunk kind b ts → length (parts_of b) < length ts }
 {}

@@ -2,6 +2,7 @@ use Rattle.std.proofs.Common.{Ok, Err, ap, subst, ◌∙◌}
 use Rattle.lua_parser.specs.Words.{words_of}
 use Rattle.lua_parser.specs.Parsing.{IsFailure}
 use Rattle.lua_parser.proofs.Parsings.{reached, is_module, only_tree, only_refusal}
+use Rattle.lua_parser.proofs.Parts.Spelled.{numbered, fewer_than_tokens, no_more_than_bytes}
 use Rattle.lua_parser.proofs.parsing.parse.Goals as goal
 
 pub returns-in-Ok-clause-tree : goal.returns-in-Ok-clause-tree
@@ -19,3 +20,12 @@ returns-in-Err-Unexpected-clause-only_tree c = λ b d. only_tree c.args.module (
 
 pub returns-in-Err-Unexpected-clause-only_refusal : goal.returns-in-Err-Unexpected-clause-only_refusal
 returns-in-Err-Unexpected-clause-only_refusal c = λ r f. only_refusal c.args.module (Err c.fault.result) tt (subst (λ z. IsFailure c.args.kind (words_of c.args.source.now z) c.fault.result) c.as_slice-in-Err-Unexpected.ensures c.fault.ensures) f
+
+pub returns-in-Ok-clause-numbered : goal.returns-in-Ok-clause-numbered
+returns-in-Ok-clause-numbered c = numbered c.args.kind (returns-in-Ok-clause-tree c).2
+
+pub returns-in-Ok-clause-fewer : goal.returns-in-Ok-clause-fewer
+returns-in-Ok-clause-fewer c = fewer_than_tokens c.args.source.now c.args.tokens.now (returns-in-Ok-clause-tree c).2
+
+pub returns-in-Ok-clause-few : goal.returns-in-Ok-clause-few
+returns-in-Ok-clause-few c = λ m l. no_more_than_bytes m c.args.source.now c.args.tokens.now l (returns-in-Ok-clause-tree c).2
