@@ -7,6 +7,8 @@ ghost use Rattle.lua_tree.specs.View.{block_of};
 ghost use Rattle.built_forms.specs.Forms as forms;
 
 mod straight;
+#[cfg(test)]
+mod tests;
 mod untyped;
 
 use lua_tree::{LibName, Scoped, Use};
