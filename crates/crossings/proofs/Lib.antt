@@ -1,0 +1,2 @@
+mod CrossingList
+pub mod Lists
