@@ -26,13 +26,13 @@ module _ (e : Ending) (result : Status) (o0 o1 r0 r1 r2 : Option (List ℕ)) whe
 
   pub ends_run : (ahead out lines : List ℕ) (status : Status) → ahead ≡ e.ahead → e.output ≡ out → lines ≡ e.after → status ≡ e.status → Appends r0 r1 ahead → Appends o0 o1 out → Reports r1 r2 lines status result
       → Delivers (Is e) result o0 o1 r0 r2
-  ends_run ahead out lines status begins wrote is as told written reported = (
+  ends_run ahead out lines status begins wrote is ends told written reported = (
     e.output,
     e.ahead ++ reported.front,
     subst (λ x. Appends o0 o1 x) (sym wrote) written,
     appends_more r0 r1 r2 e.ahead reported.front (subst (λ a. Appends r0 r1 a) begins told) reported.wrote,
     ended_after (Is e) result e refl reported.front 0 (subst (λ p. IsFront reported.front p) is reported.is_front)
-        (elim reported.ends [ inl stopped ↦ inl stopped | inr ends ↦ inr (ends.0 ∙ as, ends.1 ∙ is) ]),
+        (elim reported.ends [ inl stopped ↦ inl stopped | inr h ↦ inr (h.0 ∙ ends, h.1 ∙ is) ]),
   )
 
 -- the input is left alone

@@ -1,6 +1,8 @@
 -- The run of a machine, from event to event.
 use Rattle.std.proofs.Common.{◌≡◌, refl, sym, ◌∙◌, ap, subst, ℕ, zero, suc, ◌+◌, ◌-◌, List, [], ◌∷◌, ◌++◌, append_assoc, append-nil, map, length, Option, Some, None, arith}
+use Rattle.std.specs.Io.KnownBytes.{Appends}
 use Rattle.tl_base.specs.declared.place.ModuleKind.{ModuleKind}
+use Rattle.tl_base.specs.declared.crossing.Crossing.{Crossing}
 use Rattle.lua_values.specs.declared.value.Value.{Value}
 use Rattle.lua_meaning.specs.World.{World}
 use Rattle.lua_meaning.specs.Programs as program
@@ -21,9 +23,13 @@ use Rattle.lua_machine.proofs.Walks.{after_on}
 use Rattle.tlua_top.specs.declared.serve.Over.{Over}
 use Rattle.tlua_top.specs.declared.serve.Over.TheVariants as over
 use Rattle.tlua_top.specs.Words.{Text}
-use Rattle.tlua_top.specs.Outcome.{IsFront}
-use Rattle.tlua_top.specs.Defined.{budget}
-use Rattle.tlua_top.specs.Serving.{ComesTo, IsOver, over_of}
+use Rattle.tlua_top.specs.declared.status.Status.{Status}
+use Rattle.tlua_top.specs.declared.status.Status.TheVariants as status
+use Rattle.tlua_top.specs.Outcome.{Stopped, IsFront}
+use Rattle.tlua_top.specs.Lines.{kind_lines, last_line}
+use Rattle.tlua_top.specs.Defined.{budget, ran}
+use Rattle.tlua_top.specs.Serving.{ComesTo, IsOver, StopsWriting, over_of, lines_after}
+use Rattle.tlua_top.proofs.Endings.{appends_more}
 
 -- ---- runs
 
@@ -56,7 +62,7 @@ module _ (old new : Sight) (written input : Text) (whole : program.Result) where
   moved : (e : Event) (a : Advances old new e) (c : ComesTo written input old whole) → after new.code.functions c.steps (with_outside written input (showing e new.next)) ≡ stop c.ending c.world
   moved e a c =
       let code = old.code.functions in
-      let there : after code a.steps (with_outside written input old.next) ≡ with_outside written input (showing e new.next) = keep_outside code written input a.steps old.next ∙ ap (with_outside written input) a.comes in
+      let there : after code a.steps (with_outside written input old.next) ≡ with_outside written input (showing e new.next) = keep_outside written input code a.steps old.next ∙ ap (with_outside written input) a.comes in
       let on = later code a.steps c.steps (with_outside written input old.next) c.ending c.world c.comes in
       let here : after code c.steps (with_outside written input (showing e new.next)) ≡ stop c.ending c.world = ap (after code c.steps) (sym there) ∙ on in
       subst (λ (k : Code). after k.functions c.steps (with_outside written input (showing e new.next)) ≡ stop c.ending c.world) (sym a.code) here
@@ -113,7 +119,7 @@ begins_so written input (stop d v) e w h = let worlds : outside written input v 
 pub is_front : (m : Sight) (written input : Text) (whole : program.Result) → ComesTo written input m whole → IsFront written whole.output
 is_front m written input whole c =
     let code = m.code.functions in
-    let front = begins_so written input (after code c.steps m.next) c.ending c.world (sym (keep_outside code written input c.steps m.next) ∙ c.comes) in
+    let front = begins_so written input (after code c.steps m.next) c.ending c.world (sym (keep_outside written input code c.steps m.next) ∙ c.comes) in
     (front.0, ap (λ (r : program.Result). r.output) c.is ∙ front.1)
 
 -- ---- the begin of a run
@@ -144,3 +150,47 @@ begins code m file input machine b faithful =
       comes = ap (λ (k : Code). after k.functions run.0 (with_outside [] input machine.next)) b.code_is ∙ ap (after code.functions run.0) (sym here) ∙ there;
       is = end.2;
     }
+
+-- a list into which one thing was pushed
+pub one_item : {A : Type 0} (xs ys : List A) (x : A) → xs ≡ [] → ys ≡ xs ++ x ∷ [] → ys ≡ x ∷ []
+one_item xs ys x none pushed = pushed ∙ ap (λ l. l ++ x ∷ []) none
+
+-- ---- what was written, over what the output tells
+
+module _ (old new : Sight) (out input text piece : Text) (whole : program.Result) (o0 o1 o2 : Option Text) where
+  -- a text was written
+  pub writes : piece ≡ text → Appends o0 o1 out → Appends o1 o2 piece → Advances old new (event.Output text) → ComesTo out input old whole → (x : Text) × Appends o0 o2 x × ComesTo x input new whole
+  writes is before wrote a c = (out ++ text, appends_more o0 o1 o2 out text before (subst (Appends o1 o2) is wrote), writes_on old new out input whole text a c)
+
+  -- a front of a text was written
+  pub cuts : piece ≡ text → Appends o0 o1 out → (front : Text) × IsFront front piece × Appends o1 o2 front → Advances old new (event.Output text) → ComesTo out input old whole
+      → (x : Text) × IsFront x whole.output × Appends o0 o2 x
+  cuts is before wrote a c =
+      let front = wrote.0 in
+      let all = is_front new (out ++ text) input whole (writes_on old new out input whole text a c) in
+      let inside : IsFront front text = subst (IsFront front) is wrote.1 in
+      let split : whole.output ≡ out ++ (front ++ (inside.0 ++ all.0)) =
+      all.1 ∙ ap (λ t. (out ++ t) ++ all.0) inside.1 ∙ append_assoc out (front ++ inside.0) all.0 ∙ ap (λ t. out ++ t) (append_assoc front inside.0 all.0) in
+      (out ++ front, (inside.0 ++ all.0, split ∙ sym (append_assoc out front (inside.0 ++ all.0))), appends_more o0 o1 o2 out front before wrote.2)
+
+-- nothing more was written
+pub stays : (m : Sight) (out input : Text) (whole : program.Result) (o0 o1 : Option Text) → Appends o0 o1 out → ComesTo out input m whole → (x : Text) × IsFront x whole.output × Appends o0 o1 x
+stays m out input whole o0 o1 before c = (out, is_front m out input whole c, before)
+
+-- ---- the report behind a run
+
+pub after_is : (file given out : Text) (list : List Crossing) (whole : program.Result) (o : Over) (m : Sight) → given ≡ file → IsOver whole out o m → lines_after given o m ≡ (ran file list whole).after
+after_is file given out list whole o m is h =
+    ap (λ f. lines_after f o m) is ∙ ap (λ e. kind_lines file e ++ last_line (over_of o) (budget - m.turns)) (sym h.error) ∙ ap (λ d. kind_lines file whole.error ++ last_line d (budget - m.turns)) (sym h.ending)
+    ∙ ap (λ n. kind_lines file whole.error ++ last_line whole.ending n) (sym h.turns)
+
+-- a run stops for the output or for memory alone
+pub stops_call : (result : Status) → StopsWriting result → Stopped result
+stops_call status.WriteFault h = tt
+stops_call status.NoMemory h = tt
+stops_call status.Done h = absurd h
+stops_call status.LuaError h = absurd h
+stops_call status.Usage h = absurd h
+stops_call status.Refused h = absurd h
+stops_call status.ReadFault h = absurd h
+stops_call status.TurnsSpent h = absurd h

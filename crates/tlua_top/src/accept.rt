@@ -1,6 +1,7 @@
 //! From the bytes of a file to a program that may run, phase by phase.
 
-ghost use Rattle.std.specs.Prelude.{◌≡◌, List, ℕ, IfOk, IfErr};
+ghost use Rattle.std.specs.Prelude.{◌≡◌, IfOk, IfErr};
+ghost use Rattle.tlua_top.specs.Words.{Text};
 ghost use Rattle.tlua_top.specs.Phases.{of_file};
 ghost use Rattle.tlua_top.specs.Defined.{OfScoped, OfTree, OfTokens, OfSource};
 ghost use Rattle.tlua_top.specs.Asked.{Accepts, IsListed};
@@ -40,7 +41,7 @@ pub fn of_file(code: RefusalCode) -> Refusal
 
 /// The program of a module whose names mean what they say: it is of a form that is built, and its types fit.
 fn of_scoped(alloc: Global, file: &str, scoped: Scoped) -> Result<Program, Failure>
-    ensures { (input : List ℕ) → Accepts (OfScoped file.now input scoped) file.now input result }
+    ensures { (input : Text) → Accepts (OfScoped file.now input scoped) file.now input result }
 {
     if !is_built(&scoped) {
         return Err(Failure::Refused(of_file(RefusalCode::X1)));
@@ -67,7 +68,7 @@ fn listed(alloc: Global, file: &str, scoped: Scoped) -> Result<Program, Failure>
 
 /// The program of a module's tree.
 fn of_tree(alloc: Global, file: &str, tree: Chunk) -> Result<Program, Failure>
-    ensures { (input : List ℕ) → Accepts (OfTree file.now input tree) file.now input result }
+    ensures { (input : Text) → Accepts (OfTree file.now input tree) file.now input result }
 {
     match resolve(alloc, tree) {
         Ok(scoped) => of_scoped(alloc, file, scoped),
@@ -83,7 +84,7 @@ fn of_tokens(
     source: &[u8],
     tokens: &List<Token>,
 ) -> Result<Program, Failure>
-    ensures { (input : List ℕ) → Accepts (OfTokens file.now input kind source.now tokens.now) file.now input result }
+    ensures { (input : Text) → Accepts (OfTokens file.now input kind source.now tokens.now) file.now input result }
 {
     match parse(alloc, 0, kind, source, tokens) {
         Ok(tree) => of_tree(alloc, file, tree),
@@ -98,7 +99,7 @@ pub fn of_source(
     kind: ModuleKind,
     source: &[u8],
 ) -> Result<Program, Failure>
-    ensures { (input : List ℕ) → Accepts (OfSource file.now input kind source.now) file.now input result }
+    ensures { (input : Text) → Accepts (OfSource file.now input kind source.now) file.now input result }
 {
     match lex(alloc, 0, source) {
         Ok(tokens) => of_tokens(alloc, file, kind, source, &tokens),

@@ -100,7 +100,7 @@ fn of_word<F: Files>(
 }
 
 /// What words ask for.
-pub fn asked<F: Files>(alloc: Global, words: &[String], files: &mut F) -> Result<Asked, Unknown>
+pub fn settle<F: Files>(alloc: Global, words: &[String], files: &mut F) -> Result<Asked, Unknown>
     ensures meaning { (told : List TheFile) (input : List ℕ) → F.told files.old ≡ Some told → IfOk result (λ a. Defined (map (λ word. string_bytes word) words.now) told input (ending_of input a)) }
     ensures reading { MatchOption (file_to_run (map (λ word. string_bytes word) words.now)) (IfOk result IsUsage) (λ file. IfOk result IsOfFile) }
     ensures settled { IfOk result IsSettled }

@@ -12,7 +12,7 @@ use crate::accept::Program;
 use crate::output::{report_lines, stopped_by, write_all};
 use crate::report::{push_kind_lines, push_last_line};
 use crate::serve::{Over, serve};
-use crate::start::{BUDGET, Started, started};
+use crate::start::{BUDGET, Started, start};
 use crate::status::Status;
 use lua_machine::Machine;
 use std::alloc::Global;
@@ -81,7 +81,7 @@ pub fn run_program<O: Sink, R: Sink>(
         file,
         ahead,
         mut machine,
-    } = match started(alloc, program) {
+    } = match start(alloc, program) {
         Ok(started) => started,
         Err(NoMemory) => return Status::NoMemory,
     };

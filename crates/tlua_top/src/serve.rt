@@ -1,8 +1,9 @@
 //! A machine's run, whose output is written as it comes.
 
-ghost use Rattle.std.specs.Prelude.{◌≡◌, List, ℕ, [], IfErr, IsErrOf};
+ghost use Rattle.std.specs.Prelude.{[], IfErr, IsErrOf};
 ghost use Rattle.tl_edge.specs.Edge.{HasCause};
 ghost use Rattle.lua_meaning.specs.Programs.{Result as Whole};
+ghost use Rattle.tlua_top.specs.Words.{Text};
 ghost use Rattle.tlua_top.specs.Serving.{ComesTo, Serves, StopsWriting};
 
 use crate::output::{stopped_by, write_all};
@@ -23,7 +24,7 @@ pub enum Over {
 
 /// Runs a machine to its end, and writes what it tells as it comes.
 pub fn serve<O: Sink>(machine: &mut Machine, output: &mut O) -> Result<Over, Status>
-    ensures bytes { (input : List ℕ) (whole : Whole) → ComesTo [] input machine.old whole → Serves whole (O.written output.old) (O.written output.new) machine.new result }
+    ensures bytes { (input : Text) (whole : Whole) → ComesTo [] input machine.old whole → Serves whole (O.written output.old) (O.written output.new) machine.new result }
     ensures stops { IfErr result StopsWriting }
     ensures cause { HasCause (O.faults output.old) (O.faults output.new) (IsErrOf result Status.WriteFault) }
 {

@@ -1,7 +1,8 @@
 //! A program just before its run.
 
-ghost use Rattle.std.specs.Prelude.{List, ℕ, [], IfOk};
+ghost use Rattle.std.specs.Prelude.{[], IfOk};
 ghost use Rattle.lua_meaning.specs.Programs.{module_of};
+ghost use Rattle.tlua_top.specs.Words.{Text};
 ghost use Rattle.tlua_top.specs.Defined.{run_of};
 ghost use Rattle.tlua_top.specs.Serving.{ComesTo, IsStarted};
 
@@ -28,7 +29,7 @@ pub struct Started {
 
 /// A machine that is to run this module from the file of this word.
 fn machine_of(alloc: Global, file: &[u8], scoped: Scoped) -> Result<Machine, NoMemory>
-    ensures { IfOk result (λ machine. (input : List ℕ) → ComesTo [] input machine (run_of file.now input (module_of scoped))) }
+    ensures { IfOk result (λ machine. (input : Text) → ComesTo [] input machine (run_of file.now input (module_of scoped))) }
 {
     let kind = scoped.chunk.kind;
     let mut modules = List::new(alloc);
@@ -43,7 +44,7 @@ fn machine_of(alloc: Global, file: &[u8], scoped: Scoped) -> Result<Machine, NoM
 }
 
 /// Makes a program's code, and a machine that is to run it.
-pub fn started(alloc: Global, program: Program) -> Result<Started, NoMemory>
+pub fn start(alloc: Global, program: Program) -> Result<Started, NoMemory>
     ensures { IfOk result (IsStarted program) }
 {
     let Program {

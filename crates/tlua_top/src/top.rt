@@ -6,7 +6,7 @@ ghost use Rattle.tlua_top.specs.Words.{file_to_run, kind_to_read};
 ghost use Rattle.tlua_top.specs.Defined.{Defined};
 ghost use Rattle.tlua_top.specs.Sound.{IsSound};
 
-use crate::asked::{Asked, Unknown, asked};
+use crate::asked::{Asked, Unknown, settle};
 use crate::output::report_lines;
 use crate::run::run_program;
 use crate::status::Status;
@@ -43,7 +43,7 @@ pub fn tlua<F: Files, I: Source, O: Sink, R: Sink>(
     ensures read_fault { result ≡ Status.ReadFault → Rose (F.faults files.old) (F.faults files.new) ⊎ Rose (I.faults input.old) (I.faults input.new) }
     ensures write_fault { result ≡ Status.WriteFault → Rose (O.faults output.old) (O.faults output.new) ⊎ Rose (R.faults report.old) (R.faults report.new) }
 {
-    match asked(alloc, words, files) {
+    match settle(alloc, words, files) {
         Ok(Asked::Report(status, line)) => report_lines(report, line.as_slice(), status),
         Ok(Asked::Run(program)) => run_program(alloc, program, output, report),
         Err(Unknown::ReadFault) => Status::ReadFault,
