@@ -1,0 +1,12 @@
+use Rattle.std.proofs.Common.{◌≡◌, map}
+use Rattle.std.specs.Option.{option_map}
+use Rattle.lua_tree.specs.View.{stat_of, return_of, block_of, block_from}
+use Rattle.tl_rules.specs.Orders.{plain_order, loose_order}
+use Rattle.tl_rules.specs.Statements.{check_block}
+use Rattle.tl_check.proofs.Loops.{after_stats}
+use Rattle.tl_check.proofs.statements.block.Given as goal
+
+abbrev pub invariant-loop-stat : goal.invariant-loop-stat
+invariant-loop-stat l =
+    after_stats l.uses (map stat_of l.done) (check_block l.uses plain_order loose_order l.env.items (block_from (map stat_of l.stat-iterator.rest.items) (option_map return_of l.ending)))
+    ≡ check_block l.uses plain_order loose_order l.fn.env.items (block_of l.fn.block)
