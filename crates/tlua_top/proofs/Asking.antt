@@ -1,5 +1,5 @@
 -- What words ask for, from the facts of the parts.
-use Rattle.std.proofs.Common.{◌≡◌, inl, inr, ◌<◌, ◌≤◌, List, length, Option, Some, None, Result, Ok, Err, sym, ◌∙◌, ap, subst}
+use Rattle.std.proofs.Common.{◌≡◌, inl, inr, ◌≤◌, List, length, Option, Some, None, Result, Ok, Err, sym, ◌∙◌, ap, subst}
 use Rattle.std.specs.Prelude.{IfOk}
 use Rattle.tl_base.specs.declared.place.ModuleKind.{ModuleKind}
 use Rattle.tl_base.specs.declared.refusal.Refusal.{Refusal}
@@ -11,7 +11,7 @@ use Rattle.tlua_top.specs.declared.asked.Asked.{Asked}
 use Rattle.tlua_top.specs.Words.{Text, file_to_run, kind_of_word}
 use Rattle.tlua_top.specs.Outcome.{Ending}
 use Rattle.tlua_top.specs.Phases.{refused, of_file, longest}
-use Rattle.tlua_top.specs.Defined.{OfSource, OfBytes, OfFile, OfWords, Defined}
+use Rattle.tlua_top.specs.Defined.{OfSource, OfBytes, OfWords, Defined}
 use Rattle.tlua_top.specs.Asked.{ending_of}
 
 -- a refusal's line ends the call as the refusal does

@@ -1,11 +1,10 @@
 -- Where a program's run may return, over what the outputs tell.
-use Rattle.std.proofs.Common.{◌≡◌, ◌⊎◌, inl, inr, List, [], ◌++◌, Option, ℕ, refl, sym, ap, ◌∙◌, subst, append-nil, arith}
+use Rattle.std.proofs.Common.{◌≡◌, inl, inr, List, [], ◌++◌, Option, ℕ, refl, sym, ap, ◌∙◌, subst, append-nil, arith}
 use Rattle.std.specs.Io.KnownBytes.{Appends}
-use Rattle.lua_meaning.specs.Programs as program
 use Rattle.tlua_top.specs.declared.status.Status.{Status}
 use Rattle.tlua_top.specs.Outcome.{Ending, Stopped, IsFront, Follows, Delivers, Meets, only_reports}
 use Rattle.tlua_top.specs.Output.{Reports}
-use Rattle.tlua_top.proofs.Endings.{appends_none, appends_more, consumes_none, front_all, stopped_early, stopped_ahead, stopped_in_run, ended_after, follows_more}
+use Rattle.tlua_top.proofs.Endings.{appends_none, appends_more, consumes_none, stopped_early, stopped_ahead, stopped_in_run, ended_after, follows_more}
 
 -- a front of a piece was written
 abbrev pub Wrote : Option (List ℕ) → Option (List ℕ) → List ℕ → Type 0

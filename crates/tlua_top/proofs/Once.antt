@@ -1,5 +1,5 @@
 -- A call has one defined ending at most.
-use Rattle.std.proofs.Common.{◌≡◌, refl, sym, ◌∙◌, ap, subst, Option, Some, None, Result, Ok, Err, List, length, arith}
+use Rattle.std.proofs.Common.{◌≡◌, refl, sym, ◌∙◌, ap, true, false, Option, Some, None, Result, Ok, Err, List, length, arith}
 use Rattle.tl_base.specs.declared.place.ModuleKind.{ModuleKind}
 use Rattle.tl_base.specs.declared.refusal.Refusal.{Refusal}
 use Rattle.tl_edge.specs.declared.outside.FileBytes.{FileBytes}
@@ -19,9 +19,9 @@ use Rattle.tl_rules.specs.Checked.{Checked, fine, fault}
 use Rattle.tl_rules.specs.Crossings.{block_marks}
 use Rattle.tl_rules.proofs.Crossings.{list_unique}
 use Rattle.lua_meaning.specs.Programs.{Module}
-use Rattle.tlua_top.specs.Words.{Text, file_to_run, kind_of_word}
+use Rattle.tlua_top.specs.Words.{Text, file_to_run}
 use Rattle.tlua_top.specs.Outcome.{Ending}
-use Rattle.tlua_top.specs.Phases.{IsMisnamed, HasKind, IsUnread, IsRead, IsNotBuilt, IsBuilt, IsFaulty, IsMarked, typing, built, longest}
+use Rattle.tlua_top.specs.Phases.{IsMisnamed, HasKind, IsUnread, IsRead, IsNotBuilt, IsBuilt, IsFaulty, IsMarked, typing}
 use Rattle.tlua_top.specs.Defined.{ran, run_of, marked_module, OfRun, OfScoped, OfTree, OfTokens, OfSource, OfBytes, OfFile, OfWords, Defined}
 use Rattle.tlua_top.proofs.Phases.{phase_once}
 

@@ -7,7 +7,7 @@ use Rattle.tlua_top.specs.declared.accept.Program.{Program}
 use Rattle.tlua_top.specs.Words.{Text}
 use Rattle.tlua_top.specs.Outcome.{Ending}
 use Rattle.tlua_top.specs.Phases.{phase, refused}
-use Rattle.tlua_top.specs.Asked.{Accepts, run_ending}
+use Rattle.tlua_top.specs.Asked.{Accepts}
 
 -- the failure is a refusal of a phase, or want of memory
 abbrev pub IsRefusedBy : (Refusal → Type 0) → Failure → Type 0

@@ -1,7 +1,6 @@
 -- The run of a machine, from event to event.
-use Rattle.std.proofs.Common.{◌≡◌, refl, sym, ◌∙◌, ap, subst, ℕ, zero, suc, ◌+◌, ◌-◌, List, [], ◌∷◌, ◌++◌, append_assoc, append-nil, map, length, Option, Some, None, arith}
+use Rattle.std.proofs.Common.{◌≡◌, refl, sym, ◌∙◌, ap, subst, ℕ, zero, suc, ◌+◌, ◌-◌, List, [], ◌∷◌, ◌++◌, append_assoc, append-nil, Option, Some, None, arith}
 use Rattle.std.specs.Io.KnownBytes.{Appends}
-use Rattle.tl_base.specs.declared.place.ModuleKind.{ModuleKind}
 use Rattle.tl_base.specs.declared.crossing.Crossing.{Crossing}
 use Rattle.lua_values.specs.declared.value.Value.{Value}
 use Rattle.lua_meaning.specs.World.{World}
@@ -9,9 +8,9 @@ use Rattle.lua_meaning.specs.Programs as program
 use Rattle.lua_meaning.specs.Programs.{Module, start, ended, meaning, finished, failed, spent}
 use Rattle.lua_code.specs.declared.code.Code.{Code}
 use Rattle.lua_code.specs.declared.code.Proto.{Proto}
-use Rattle.lua_code.specs.Configurations.{Config, running, calling, giving, raising, Next, go, stop, stuck}
+use Rattle.lua_code.specs.Configurations.{running, calling, giving, raising, Next, go, stop, stuck}
 use Rattle.lua_code.specs.Faithful.{IsFaithful}
-use Rattle.lua_code.specs.Steps.{End, begin_turn, end_of, halts, step, result_of, run}
+use Rattle.lua_code.specs.Steps.{End, begin_turn, end_of, halts, step, result_of}
 use Rattle.lua_machine.specs.declared.events.Event.TheVariants as event
 use Rattle.lua_machine.specs.declared.events.Event.{Event}
 use Rattle.lua_machine.specs.Machines.{Sight, Advances, Begins, showing, turns_in, error_in}

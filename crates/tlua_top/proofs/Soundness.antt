@@ -1,5 +1,5 @@
 -- A defined report's `kind` line names a crossing of its list.
-use Rattle.std.proofs.Common.{◌≡◌, ℕ, Bool, true, false, List, [], ◌∷◌, ◌++◌, Option, Some, None, Ok, Err, refl, sym, ap, subst}
+use Rattle.std.proofs.Common.{◌≡◌, ℕ, false, List, [], ◌∷◌, ◌++◌, Option, Some, None, Ok, Err, refl, sym, ap, subst}
 use Rattle.std.specs.Prelude.{codes, IfSome}
 use Rattle.tl_base.specs.declared.place.ModuleKind.{ModuleKind}
 use Rattle.tl_base.specs.declared.crossing.Crossing.{Crossing}
@@ -15,7 +15,6 @@ use Rattle.lua_lexer.specs.declared.token.Token.{Token}
 use Rattle.lua_lexer.specs.Tokens.{Lexed, Refused}
 use Rattle.lua_parser.specs.Words.{words_of}
 use Rattle.lua_parser.specs.Parsing.{IsModule, IsRefused as IsRefusedWord}
-use Rattle.tl_rules.specs.Crossings.{block_marks, IsCrossingList}
 use Rattle.tl_rules.specs.Orders.{plain_order, loose_order}
 use Rattle.tl_rules.proofs.Decided.{are_orders}
 use Rattle.lua_meaning.specs.World.{KindError}
@@ -29,7 +28,7 @@ use Rattle.tlua_top.specs.Outcome.{Ending, only_reports}
 use Rattle.tlua_top.specs.Lines.{crossing_lines, kind_line, kind_lines, last_line}
 use Rattle.tlua_top.specs.Sound.{begins_with, IsSound}
 use Rattle.tlua_top.specs.Phases.{refused, IsMisnamed, HasKind, IsUnread, IsRead, IsNotBuilt, IsBuilt, IsFaulty, IsMarked}
-use Rattle.tlua_top.specs.Defined.{budget, ran, run_of, status_of, marked_module, OfRun, OfScoped, OfTree, OfTokens, OfSource, OfBytes, OfFile, OfWords, Defined}
+use Rattle.tlua_top.specs.Defined.{budget, run_of, status_of, marked_module, OfRun, OfScoped, OfTree, OfTokens, OfSource, OfBytes, OfFile, OfWords, Defined}
 use Rattle.tlua_top.proofs.Phases.{phase_all}
 
 only_sound : (status : Status) (line : Text) → IsSound (only_reports status line)

@@ -1,6 +1,5 @@
 -- What the code knows of a call before it writes, and of a program before it runs.
-use Rattle.std.specs.Prelude.{◌≡◌, List, Option, Result, Ok, Err}
-use Rattle.tl_base.specs.declared.refusal.Refusal.{Refusal}
+use Rattle.std.specs.Prelude.{◌≡◌, Result, Ok, Err}
 use Rattle.tl_base.specs.declared.refusal.Failure.{Failure}
 use Rattle.tl_base.specs.declared.refusal.Failure.TheVariants as failure
 use Rattle.lua_tree.specs.declared.scoped.Scoped.{Scoped}
@@ -10,7 +9,6 @@ use Rattle.lua_meaning.specs.Programs.{module_of}
 use Rattle.tlua_top.specs.declared.accept.Program.{Program}
 use Rattle.tlua_top.specs.declared.asked.Asked.{Asked}
 use Rattle.tlua_top.specs.declared.asked.Asked.TheVariants as asked
-use Rattle.tlua_top.specs.declared.status.Status.{Status}
 use Rattle.tlua_top.specs.declared.status.Status.TheVariants as status
 use Rattle.tlua_top.specs.Words.{Text}
 use Rattle.tlua_top.specs.Outcome.{Ending, Stopped, only_reports}

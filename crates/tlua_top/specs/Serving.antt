@@ -1,5 +1,5 @@
 -- The run of a machine whose output is written as it comes.
-use Rattle.std.specs.Prelude.{◌≡◌, ℕ, ◌-◌, List, [], ◌++◌, Option, Result, Ok, Err}
+use Rattle.std.specs.Prelude.{◌≡◌, ℕ, ◌-◌, [], ◌++◌, Option, Result, Ok, Err}
 use Rattle.std.specs.Io.KnownBytes.{Appends}
 use Rattle.lua_meaning.specs.World.{World}
 use Rattle.lua_meaning.specs.Programs as program
@@ -15,7 +15,7 @@ use Rattle.tlua_top.specs.declared.start.Started.{Started}
 use Rattle.tlua_top.specs.declared.status.Status.{Status}
 use Rattle.tlua_top.specs.declared.status.Status.TheVariants as status
 use Rattle.tlua_top.specs.Words.{Text}
-use Rattle.tlua_top.specs.Outcome.{Stopped, IsFront}
+use Rattle.tlua_top.specs.Outcome.{IsFront}
 use Rattle.tlua_top.specs.Lines.{crossing_lines, kind_lines, last_line}
 use Rattle.tlua_top.specs.Defined.{budget, run_of}
 

@@ -118,7 +118,10 @@ fn other_typed_modules_are_refused(rt: HostRuntime) -> Result<(), Fail> {
         ("local x = 1;", "refused main.tl:1:1 X1\n"),
         ("print()", "refused main.tl:1:1 X1\n"),
         ("return", "refused main.tl:1:1 X1\n"),
-        ("local n: integer = \"s\" return", "refused main.tl:1:1 X1\n"),
+        (
+            "local n: integer = \"s\" return",
+            "refused main.tl:1:1 X1\n",
+        ),
     ] {
         check_run(
             &rt,

@@ -42,7 +42,11 @@ fn untyped_modules_run(rt: HostRuntime) -> Result<(), Fail> {
             "1000\n",
             "done 1002\n",
         ),
-        ("print('a' .. 1, 'b' < 'c', not nil)", "a1\ttrue\ttrue\n", "done 1\n"),
+        (
+            "print('a' .. 1, 'b' < 'c', not nil)",
+            "a1\ttrue\ttrue\n",
+            "done 1\n",
+        ),
         ("return 1, 2", "", "done 1\n"),
     ] {
         check_run(
@@ -67,7 +71,12 @@ fn untyped_modules_that_fail_or_are_cut(rt: HostRuntime) -> Result<(), Fail> {
             "",
             "error 100000 main.lua:1:31: stack overflow\n",
         ),
-        ("while true do end", Status::TurnsSpent, "", "cut 10000000\n"),
+        (
+            "while true do end",
+            Status::TurnsSpent,
+            "",
+            "cut 10000000\n",
+        ),
         (
             "print(1) print(1 + nil)",
             Status::LuaError,
@@ -109,7 +118,10 @@ fn refusals_come_phase_by_phase(rt: HostRuntime) -> Result<(), Fail> {
         ("local t = {}", "refused main.lua:1:1 X1\n"),
         ("local t = nil print(t.x)", "refused main.lua:1:1 X1\n"),
         ("local t = nil t:f()", "refused main.lua:1:1 X1\n"),
-        ("local t = nil function t.f() end", "refused main.lua:1:1 X1\n"),
+        (
+            "local t = nil function t.f() end",
+            "refused main.lua:1:1 X1\n",
+        ),
         ("print(type(1))", "refused main.lua:1:1 X1\n"),
         ("require \"m\"", "refused main.lua:1:1 X1\n"),
     ] {

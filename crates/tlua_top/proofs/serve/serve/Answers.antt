@@ -1,5 +1,4 @@
 use Rattle.std.proofs.Common.{arith}
-use Rattle.tlua_top.specs.declared.serve.Over.TheVariants as over
 use Rattle.tlua_top.proofs.Serving.{writes, cuts, stays, over_done, over_raised, over_spent}
 use Rattle.tlua_top.proofs.serve.serve.Goals as goal
 

@@ -1,5 +1,4 @@
-use Rattle.std.proofs.Common.{refl, sym, ◌∙◌, ap, subst, [], ◌∷◌, map, length, arith}
-use Rattle.tl_base.specs.declared.place.ModuleKind.{ModuleKind}
+use Rattle.std.proofs.Common.{◌∙◌, ap, subst, [], ◌∷◌, map, length, arith}
 use Rattle.lua_meaning.specs.Programs.{module_of, start}
 use Rattle.lua_code.specs.Faithful.{IsFaithful}
 use Rattle.lua_machine.specs.Machines.{Begins}
