@@ -1,7 +1,13 @@
-pub mod Asking
+pub mod Closing
+pub mod CrossingList
+pub mod Cuts
 pub mod Delivering
 pub mod Endings
-pub mod Once
-pub mod Phases
-pub mod Serving
+pub mod Loops
+pub mod Modules
+pub mod Reading
+pub mod RunEnds
+pub mod Runs
+pub mod Sizes
 pub mod Soundness
+pub mod Spelling

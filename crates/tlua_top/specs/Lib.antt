@@ -1,9 +1,13 @@
-pub mod Asked
+pub mod Check
 pub mod Defined
+pub mod Ended
+pub mod Grammar
 pub mod Lines
+pub mod Machine
 pub mod Outcome
 pub mod Output
-pub mod Phases
-pub mod Serving
+pub mod Reader
+pub mod Reading
+pub mod Runs
 pub mod Sound
-pub mod Words
+pub mod Tokens

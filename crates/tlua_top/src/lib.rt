@@ -1,14 +1,14 @@
 //! The top call of tlua: from the words to the exit status.
 #![tactic(auto)]
 
-mod accept;
-mod asked;
+mod check;
+mod deliver;
+mod ended;
 mod laws;
 mod output;
+mod reader;
 mod report;
 mod run;
-mod serve;
-mod start;
 mod status;
 mod top;
 mod words;

@@ -110,7 +110,7 @@ fn files_of_the_greatest_length(rt: HostRuntime) -> Result<(), Fail> {
             1048576,
             b'?',
             Status::Refused,
-            "refused main.lua:1:1 P1\n",
+            "refused main.lua:1:1 X1\n",
         ),
         (
             "main.lua",

@@ -1,0 +1,5 @@
+pub mod Meaning
+pub mod Plain
+pub mod Program
+pub mod State
+pub mod Values

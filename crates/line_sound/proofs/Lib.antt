@@ -1,0 +1,8 @@
+mod Keeps
+mod Late
+mod Listed
+mod Untyped
+mod Runs
+mod Forms
+mod Join
+pub mod Sound

@@ -1,0 +1,58 @@
+-- What the code knows of a call before it writes, and of a program before it runs.
+use Rattle.std.specs.Prelude.{◌≡◌, Result, Ok, Err}
+use Rattle.tl_base.specs.declared.refusal.Failure.{Failure}
+use Rattle.tl_base.specs.declared.refusal.Failure.TheVariants as failure
+use Rattle.lua_tree.specs.declared.scoped.Scoped.{Scoped}
+use Rattle.lua_tree.specs.View.{block_of}
+use Rattle.tl_rules.specs.Checked.{fine, fault}
+use Rattle.tl_rules.specs.Crossings.{block_marks, IsCrossingList}
+use Rattle.lua_meaning.specs.Programs.{module_of}
+use Rattle.whole_top.specs.declared.accept.Program.{Program}
+use Rattle.whole_top.specs.declared.asked.Asked.{Asked}
+use Rattle.whole_top.specs.declared.asked.Asked.TheVariants as asked
+use Rattle.whole_top.specs.declared.status.Status.TheVariants as status
+use Rattle.whole_top.specs.Words.{Text}
+use Rattle.whole_top.specs.Outcome.{Ending, Stopped, only_reports}
+use Rattle.whole_top.specs.Phases.{refused, typing}
+use Rattle.whole_top.specs.Defined.{ran, run_of}
+
+-- how a program ends that is run with this input
+abbrev pub run_ending : Text → Program → Ending
+run_ending input p = ran p.file p.crossings (run_of p.file input (module_of p.scoped))
+
+-- The answer of the phases so far: a program whose run is the defined ending, or the defined refusal, or want of memory.
+abbrev pub Accepts : (Ending → Type 0) → Text → Text → Result Program Failure → Type 0
+Accepts defined file input (Ok p) = defined (run_ending input p)
+Accepts defined file input (Err (failure.Refused r)) = defined (refused file r)
+Accepts defined file input (Err failure.NoMemory) = Unit {0}
+
+-- how a call ends whose words ask for this
+abbrev pub ending_of : Text → Asked → Ending
+ending_of input (asked.Report status line) = only_reports status line
+ending_of input (asked.Run p) = run_ending input p
+
+-- a report that is made without a run tells no stop
+abbrev pub IsSettled : Asked → Type 0
+IsSettled (asked.Report all line) = Stopped all → ⊥
+IsSettled (asked.Run p) = Unit {0}
+
+abbrev pub IsUsage : Asked → Type 0
+IsUsage (asked.Report all line) = all ≡ status.Usage
+IsUsage (asked.Run p) = ⊥
+
+-- a file is asked for, which is refused or run
+abbrev pub IsOfFile : Asked → Type 0
+IsOfFile (asked.Report all line) = all ≡ status.Refused
+IsOfFile (asked.Run p) = Unit {0}
+
+-- a program is this module, run from the file of this word, with the list of its crossings
+pub record IsListed (file : Text) (s : Scoped) (p : Program) : Type 0 where
+  pub file_is : p.file ≡ file
+  pub scoped_is : p.scoped ≡ s
+  pub listed : IsCrossingList (block_marks (block_of s.chunk.body)) p.crossings
+
+-- The module that the rules give, or their first fault, or want of memory.
+abbrev pub Answers : Scoped → Result Scoped Failure → Type 0
+Answers s (Ok t) = typing s ≡ fine (block_of t.chunk.body)
+Answers s (Err (failure.Refused r)) = typing s ≡ fault r.code r.pos
+Answers s (Err failure.NoMemory) = Unit {0}

@@ -1,0 +1,4 @@
+mod calls;
+mod laws;
+mod untyped;
+mod words;
