@@ -1,7 +1,8 @@
-use crate::{Typed, expression, flow_into};
-use lua_tree::{BinaryOperator, Expr, Use};
+use crate::{Typed, check_module, expression, flow_into};
+use lua_tree::{BinaryOperator, Block, Chunk, Expr, Scoped, Stat, Use};
 use std::alloc::Global;
-use tl_base::{Boxed, Bytes, CrossKind, Failure, Pos, RefusalCode};
+use std::test::Fail;
+use tl_base::{Boxed, Bytes, CrossKind, Failure, List, ModuleKind, NoMemory, Pos, RefusalCode};
 use tl_rules::Local;
 use tl_types::Ty;
 
@@ -62,4 +63,38 @@ fn values_flow(rt: HostRuntime) {
     let alloc = rt.alloc();
     assert!(rt; matches!(flow_into(alloc, nil(), &Ty::Value), Ok(_)));
     assert!(rt; is_refused(flow_into(alloc, nil(), &Ty::Int), RefusalCode::F1));
+}
+
+// Why a module is refused whose one statement is this.
+fn fault(alloc: Global, kind: ModuleKind, stat: Stat) -> Result<Option<RefusalCode>, NoMemory> {
+    let mut stats = List::new(alloc);
+    stats.push(stat)?;
+    let scoped = Scoped {
+        chunk: Chunk {
+            module: 0,
+            kind,
+            body: Block {
+                stats,
+                result: None,
+            },
+        },
+        uses: List::new(alloc),
+        locals: List::new(alloc),
+        required: List::new(alloc),
+    };
+    match check_module(alloc, scoped) {
+        Err(Failure::Refused(refusal)) => Ok(Some(refusal.code)),
+        Err(Failure::NoMemory) => Err(NoMemory),
+        Ok(_) => Ok(None),
+    }
+}
+
+#[test]
+fn modules_are_typed(rt: HostRuntime) -> Result<(), Fail> {
+    let alloc = rt.alloc();
+    let typed = fault(alloc, ModuleKind::Typed, Stat::Break(PLACE))?;
+    assert!(rt; typed == Some(RefusalCode::X1));
+    let untyped = fault(alloc, ModuleKind::Untyped, Stat::Break(PLACE))?;
+    assert!(rt; untyped == None);
+    Ok(())
 }
