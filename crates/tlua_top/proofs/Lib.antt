@@ -1,13 +1,7 @@
-pub mod Closing
-pub mod CrossingList
-pub mod Cuts
+pub mod Asking
 pub mod Delivering
 pub mod Endings
-pub mod Loops
-pub mod Modules
-pub mod Reading
-pub mod RunEnds
-pub mod Runs
-pub mod Sizes
+pub mod Once
+pub mod Phases
+pub mod Serving
 pub mod Soundness
-pub mod Spelling

@@ -1,39 +1,45 @@
--- A defined report's `kind` line names a crossing of its list, and a call has one defined ending at most.
-use Rattle.std.proofs.Common.{◌≡◌, inl, inr, ℕ, Bool, true, false, List, [], ◌∷◌, ◌++◌, Option, Some, None, length, refl, sym, ◌∙◌, ap, subst}
-use Rattle.std.specs.Prelude.{nat_lt, codes, IfSome, MatchBool}
+-- A defined report's `kind` line names a crossing of its list.
+use Rattle.std.proofs.Common.{◌≡◌, ℕ, false, List, [], ◌∷◌, ◌++◌, Option, Some, None, Ok, Err, refl, sym, ap, subst}
+use Rattle.std.specs.Prelude.{codes, IfSome}
 use Rattle.tl_base.specs.declared.place.ModuleKind.{ModuleKind}
 use Rattle.tl_base.specs.declared.crossing.Crossing.{Crossing}
+use Rattle.tl_base.specs.declared.refusal.Refusal.{Refusal}
 use Rattle.tl_edge.specs.declared.outside.FileBytes.{FileBytes}
 use Rattle.tl_edge.specs.Files.{bytes_of}
-use Rattle.line_tree.specs.Tree.{Line}
-use Rattle.line_types.specs.Order.{below, consistent}
-use Rattle.line_rules.specs.Checked.{Checked, fine, fault}
-use Rattle.line_rules.specs.Rules.{check_module}
+use Rattle.lua_tree.specs.declared.syntax.Chunk.{Chunk}
+use Rattle.lua_tree.specs.declared.scoped.Scoped.{Scoped}
+use Rattle.lua_tree.specs.Scopes.Resolved.{resolution}
+use Rattle.lua_tree.specs.Tree.{Block}
+use Rattle.lua_tree.specs.View.{block_of}
+use Rattle.lua_lexer.specs.declared.token.Token.{Token}
+use Rattle.lua_lexer.specs.Tokens.{Lexed, Refused}
+use Rattle.lua_parser.specs.Words.{words_of}
+use Rattle.lua_parser.specs.Parsing.{IsModule, IsRefused as IsRefusedWord}
+use Rattle.tl_rules.specs.Orders.{plain_order, loose_order}
+use Rattle.tl_rules.proofs.Decided.{are_orders}
+use Rattle.lua_meaning.specs.World.{KindError}
+use Rattle.lua_meaning.specs.Programs.{Ending as RunEnding, finished, failed, spent, Module}
+use Rattle.tl_sound.specs.Laws as law
+use Rattle.tl_sound.specs.Laws.{IsAfterOneOf}
+use Rattle.tl_sound.proofs.Sound.{errors_named}
 use Rattle.tlua_top.specs.declared.status.Status.{Status}
-use Rattle.line_rules.specs.Crossings.{module_marks, IsCrossingList}
-use Rattle.line_rules.proofs.Crossings.{list_unique}
-use Rattle.line_meaning.specs.State.{KindError}
-use Rattle.line_meaning.specs.Program.{Outcome, normal, failed, spent}
-use Rattle.line_sound.specs.Laws.{IsAfterOneOf}
-use Rattle.line_sound.proofs.Sound.{errors_named}
-use Rattle.tlua_top.specs.Tokens.{Text}
+use Rattle.tlua_top.specs.Words.{Text, file_to_run}
 use Rattle.tlua_top.specs.Outcome.{Ending, only_reports}
 use Rattle.tlua_top.specs.Lines.{crossing_lines, kind_line, kind_lines, last_line}
 use Rattle.tlua_top.specs.Sound.{begins_with, IsSound}
-use Rattle.tlua_top.specs.Defined.{ran, run_of, status_of, budget, OfChecked, OfText, OfFile, OfWord, OfWords, Defined, file_to_run, kind_of_word}
-use Rattle.tlua_top.proofs.Modules.{one_module}
+use Rattle.tlua_top.specs.Phases.{refused, IsMisnamed, HasKind, IsUnread, IsRead, IsNotBuilt, IsBuilt, IsFaulty, IsMarked}
+use Rattle.tlua_top.specs.Defined.{budget, run_of, status_of, marked_module, OfRun, OfScoped, OfTree, OfTokens, OfSource, OfBytes, OfFile, OfWords, Defined}
+use Rattle.tlua_top.proofs.Phases.{phase_all}
 
--- ---- the `kind` line
+only_sound : (status : Status) (line : Text) → IsSound (only_reports status line)
+only_sound status line h = let f : ⊥ = cc in absurd f
 
-only_sound : (status : Status) (line : Text) (ending : Ending) → ending ≡ only_reports status line → IsSound ending
-only_sound status line ending is h = let none : false ≡ true = sym (ap (λ (e : Ending). begins_with (codes "kind ") e.after) is) ∙ h in let f : ⊥ = cc in absurd f
-
-last_not_kind : (o : Outcome) (n : ℕ) → begins_with (codes "kind ") (last_line o n) ≡ false
-last_not_kind normal n = refl
+last_not_kind : (o : RunEnding) (n : ℕ) → begins_with (codes "kind ") (last_line o n) ≡ false
+last_not_kind finished n = refl
 last_not_kind (failed v) n = refl
 last_not_kind spent n = refl
 
-module _ (file output : Text) (status : Status) (list : List Crossing) (o : Outcome) (n : ℕ) where
+module _ (file output : Text) (status : Status) (list : List Crossing) (o : RunEnding) (n : ℕ) where
   abbrev told : Option KindError → Ending
   told e = record { status = status; output = output; ahead = crossing_lines file list; after = kind_lines file e ++ last_line o n }
 
@@ -50,69 +56,43 @@ module _ (file output : Text) (status : Status) (list : List Crossing) (o : Outc
     listed = h.2;
   }
 
-ran_sound : (file input : Text) (kind : ModuleKind) (lines marked : List Line) (list : List Crossing) (ending : Ending) → check_module below consistent kind lines ≡ fine marked
-    → IsCrossingList (module_marks marked) list → ending ≡ ran file list (run_of file input kind marked) → IsSound ending
-ran_sound file input kind lines marked list ending takes listed is =
-    let r = run_of file input kind marked in
-    let named = errors_named (record { kind = kind; body = lines }) (record { kind = kind; body = marked }) (file ∷ []) input budget list (record { kind = refl; body = takes }) listed in
-    subst IsSound (sym is) (told_sound file r.output (status_of r.outcome) list r.outcome r.turns r.error named)
+-- the rules take a module, and its marked form runs
+run_sound : (file input : Text) (s : Scoped) (marked : Block) → IsMarked s marked → (x : Ending) → OfRun file input (marked_module s marked) x → IsSound x
+run_sound file input s marked typed x h =
+    let m : Module = marked_module s (block_of s.chunk.body) in
+    let m' : Module = marked_module s marked in
+    let r = run_of file input m' in
+    let takes : law.IsMarked plain_order loose_order m m' = record { orders = are_orders; kind = refl; names = refl; body = typed } in
+    let named = errors_named plain_order loose_order m m' (file ∷ []) input budget h.0 takes h.1 in
+    subst IsSound (sym h.2) (told_sound file r.output (status_of r.ending) h.0 r.ending r.turns r.error named)
 
-checked_sound : (file input : Text) (kind : ModuleKind) (lines : List Line) (r : Checked (List Line)) (ending : Ending) → check_module below consistent kind lines ≡ r → OfChecked file input kind r ending → IsSound ending
-checked_sound file input kind lines (fault c p) ending takes is = only_sound _ _ ending is
-checked_sound file input kind lines (fine marked) ending takes is = ran_sound file input kind lines marked is.0 ending takes is.1 is.2
+module _ (file input : Text) where
+  refused_sound : (r : Refusal) → IsSound (refused file r)
+  refused_sound r = only_sound _ _
 
-text_sound : (file input : Text) (kind : ModuleKind) (source : Text) (ending : Ending) → OfText file input kind source ending → IsSound ending
-text_sound file input kind source ending (inl of) = checked_sound file input kind of.0 (check_module below consistent kind of.0) ending refl of.3
-text_sound file input kind source ending (inr of) = only_sound _ _ ending of.1
+  scoped_sound : (s : Scoped) (x : Ending) → OfScoped file input s x → IsSound x
+  scoped_sound s =
+      phase_all file (IsNotBuilt s) (IsBuilt s) _ IsSound refused_sound (λ u b. phase_all file (IsFaulty s) (IsMarked s) _ IsSound refused_sound (λ marked m. run_sound file input s marked m))
 
-long_sound : (file input : Text) (kind : ModuleKind) (source : Text) (ending : Ending) (line : Text) (status : Status) (b : Bool) → MatchBool b (ending ≡ only_reports status line) (OfText file input kind source ending) → IsSound ending
-long_sound file input kind source ending line status true is = only_sound status line ending is
-long_sound file input kind source ending line status false of = text_sound file input kind source ending of
+  tree_sound : (tree : Chunk) (x : Ending) → OfTree file input tree x → IsSound x
+  tree_sound tree = phase_all file (λ r. resolution tree ≡ Err r) (λ s. resolution tree ≡ Ok s) (OfScoped file input) IsSound refused_sound (λ s h. scoped_sound s)
 
-file_sound : (file input : Text) (kind : ModuleKind) (o : Option Text) (ending : Ending) → OfFile file input kind o ending → IsSound ending
-file_sound file input kind None ending is = only_sound _ _ ending is
-file_sound file input kind (Some source) ending of = long_sound file input kind source ending _ _ (nat_lt 1048576 (length source)) of
+  tokens_sound : (kind : ModuleKind) (source : Text) (tokens : List Token) (x : Ending) → OfTokens file input kind source tokens x → IsSound x
+  tokens_sound kind source tokens =
+      phase_all file (IsRefusedWord kind (words_of source tokens)) (IsModule 0 kind (words_of source tokens)) (OfTree file input) IsSound refused_sound (λ tree h. tree_sound tree)
 
-word_sound : (file : Text) (files : List FileBytes) (input : Text) (o : Option ModuleKind) (ending : Ending) → OfWord file files input o ending → IsSound ending
-word_sound file files input None ending is = only_sound _ _ ending is
-word_sound file files input (Some kind) ending of = file_sound file input kind (bytes_of files file) ending of
+  source_sound : (kind : ModuleKind) (source : Text) (x : Ending) → OfSource file input kind source x → IsSound x
+  source_sound kind source = phase_all file (Refused 0 source) (Lexed 0 source) (OfTokens file input kind source) IsSound refused_sound (λ tokens h. tokens_sound kind source tokens)
 
-words_sound : (o : Option Text) (files : List FileBytes) (input : Text) (ending : Ending) → OfWords o files input ending → IsSound ending
-words_sound None files input ending is = only_sound _ _ ending is
-words_sound (Some file) files input ending of = word_sound file files input (kind_of_word file) ending of
+  bytes_sound : (found : Option Text) (kind : ModuleKind) (x : Ending) → OfBytes file input found kind x → IsSound x
+  bytes_sound found kind = phase_all file (IsUnread found) (IsRead found) (OfSource file input kind) IsSound refused_sound (λ source h. source_sound kind source)
 
-pub defined_sound : (words : List Text) (files : List FileBytes) (input : Text) (ending : Ending) → Defined words files input ending → IsSound ending
-defined_sound words files input ending of = words_sound (file_to_run words) files input ending of
+  file_sound : (files : List FileBytes) (x : Ending) → OfFile file files input x → IsSound x
+  file_sound files = phase_all file (IsMisnamed file) (HasKind file) (OfBytes file input (bytes_of files file)) IsSound refused_sound (λ kind h. bytes_sound (bytes_of files file) kind)
 
--- ---- at most one ending
+words_sound : (o : Option Text) (files : List FileBytes) (input : Text) (x : Ending) → OfWords o files input x → IsSound x
+words_sound None files input x h = subst IsSound (sym h) (only_sound _ _)
+words_sound (Some file) files input x h = file_sound file input files x h
 
-one_checked : (file input : Text) (kind : ModuleKind) (r : Checked (List Line)) (a b : Ending) → OfChecked file input kind r a → OfChecked file input kind r b → a ≡ b
-one_checked file input kind (fault c p) a b x y = x ∙ sym y
-one_checked file input kind (fine marked) a b x y = x.2 ∙ ap (λ l. ran file l (run_of file input kind marked)) (list_unique (module_marks marked) x.0 y.0 x.1 y.1) ∙ sym y.2
-
-one_text : (file input : Text) (kind : ModuleKind) (source : Text) (a b : Ending) → OfText file input kind source a → OfText file input kind source b → a ≡ b
-one_text file input kind source a b (inl x) (inl y) =
-    one_checked file input kind (check_module below consistent kind y.0) a b
-    (subst (λ ls. OfChecked file input kind (check_module below consistent kind ls) a) (one_module source x.0 y.0 x.1 y.1) x.3) y.3
-one_text file input kind source a b (inl x) (inr y) = absurd (y.0 x.0 x.1 x.2)
-one_text file input kind source a b (inr x) (inl y) = absurd (x.0 y.0 y.1 y.2)
-one_text file input kind source a b (inr x) (inr y) = x.1 ∙ sym y.1
-
-one_long : (file input : Text) (kind : ModuleKind) (source : Text) (whole a b : Ending) (c : Bool) → MatchBool c (a ≡ whole) (OfText file input kind source a) → MatchBool c (b ≡ whole) (OfText file input kind source b) → a ≡ b
-one_long file input kind source whole a b true x y = x ∙ sym y
-one_long file input kind source whole a b false x y = one_text file input kind source a b x y
-
-one_file : (file input : Text) (kind : ModuleKind) (o : Option Text) (a b : Ending) → OfFile file input kind o a → OfFile file input kind o b → a ≡ b
-one_file file input kind None a b x y = x ∙ sym y
-one_file file input kind (Some source) a b x y = one_long file input kind source _ a b (nat_lt 1048576 (length source)) x y
-
-one_word : (file : Text) (files : List FileBytes) (input : Text) (o : Option ModuleKind) (a b : Ending) → OfWord file files input o a → OfWord file files input o b → a ≡ b
-one_word file files input None a b x y = x ∙ sym y
-one_word file files input (Some kind) a b x y = one_file file input kind (bytes_of files file) a b x y
-
-one_words : (o : Option Text) (files : List FileBytes) (input : Text) (a b : Ending) → OfWords o files input a → OfWords o files input b → a ≡ b
-one_words None files input a b x y = x ∙ sym y
-one_words (Some file) files input a b x y = one_word file files input (kind_of_word file) a b x y
-
-pub defined_once : (words : List Text) (files : List FileBytes) (input : Text) (a b : Ending) → Defined words files input a → Defined words files input b → a ≡ b
-defined_once words files input a b x y = one_words (file_to_run words) files input a b x y
+pub defined_sound : (words : List Text) (files : List FileBytes) (input : Text) (x : Ending) → Defined words files input x → IsSound x
+defined_sound words files input x h = words_sound (file_to_run words) files input x h

@@ -1,13 +1,9 @@
-pub mod Check
+pub mod Asked
 pub mod Defined
-pub mod Ended
-pub mod Grammar
 pub mod Lines
-pub mod Machine
 pub mod Outcome
 pub mod Output
-pub mod Reader
-pub mod Reading
-pub mod Runs
+pub mod Phases
+pub mod Serving
 pub mod Sound
-pub mod Tokens
+pub mod Words

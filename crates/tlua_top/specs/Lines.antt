@@ -2,12 +2,12 @@
 use Rattle.std.specs.Prelude.{ℕ, ◌/◌, ◌%◌, ◌+◌, ◌==◌, ◌||◌, List, [], ◌∷◌, ◌++◌, flat_map, Option, Some, None, codes, decimal, nat_lt, if◌then◌else◌}
 use Rattle.tl_base.specs.declared.place.Pos.{Pos}
 use Rattle.tl_base.specs.declared.crossing.Crossing.{Crossing}
-use Rattle.tl_base.specs.declared.refusal.RefusalCode.{RefusalCode}
+use Rattle.tl_base.specs.declared.refusal.Refusal.{Refusal}
 use Rattle.tl_base.specs.Names.{cross_name, code_name}
-use Rattle.line_meaning.specs.Values.{text_of}
-use Rattle.line_meaning.specs.State.{KindError}
-use Rattle.line_meaning.specs.Program.{Outcome, normal, failed, spent}
-use Rattle.tlua_top.specs.Tokens.{Text}
+use Rattle.lua_values.specs.Shown.{shown_text}
+use Rattle.lua_meaning.specs.World.{KindError}
+use Rattle.lua_meaning.specs.Programs.{Ending, finished, failed, spent}
+use Rattle.tlua_top.specs.Words.{Text}
 
 abbrev pub usage_line : Text
 usage_line = codes "usage: tlua run|check|erase|code|gen\n"
@@ -15,8 +15,8 @@ usage_line = codes "usage: tlua run|check|erase|code|gen\n"
 abbrev pub place_text : Text → Pos → Text
 place_text file p = file ++ codes ":" ++ decimal p.line ++ codes ":" ++ decimal p.column
 
-abbrev pub refusal_line : Text → RefusalCode → Pos → Text
-refusal_line file code p = codes "refused " ++ place_text file p ++ codes " " ++ code_name code ++ codes "\n"
+abbrev pub refusal_line : Text → Refusal → Text
+refusal_line file r = codes "refused " ++ place_text file r.pos ++ codes " " ++ code_name r.code ++ codes "\n"
 
 -- a crossing: its place and its kind
 abbrev pub crossing_text : Text → Crossing → Text
@@ -47,7 +47,8 @@ hex_digit n = if nat_lt n 10 then n + 48 else n + 87
 abbrev pub escaped : ℕ → Text
 escaped b = if nat_lt b 32 || nat_lt 126 b || b == 92 then codes "\\x" ++ hex_digit (b / 16) ∷ hex_digit (b % 16) ∷ [] else b ∷ []
 
-abbrev pub last_line : Outcome → ℕ → Text
-last_line normal turns = codes "done " ++ decimal turns ++ codes "\n"
-last_line (failed v) turns = codes "error " ++ decimal turns ++ codes " " ++ flat_map escaped (text_of v) ++ codes "\n"
+-- how the run ended, and the turns that it used
+abbrev pub last_line : Ending → ℕ → Text
+last_line finished turns = codes "done " ++ decimal turns ++ codes "\n"
+last_line (failed v) turns = codes "error " ++ decimal turns ++ codes " " ++ flat_map escaped (shown_text v) ++ codes "\n"
 last_line spent turns = codes "cut " ++ decimal turns ++ codes "\n"

@@ -2,7 +2,7 @@
 use Rattle.std.specs.Prelude.{◌≡◌, ◌&&◌, Bool, true, false, List, [], ◌∷◌, ◌++◌, nat_eq, codes, Some, Contains}
 use Rattle.tl_base.specs.declared.place.Pos.{Pos}
 use Rattle.tl_base.specs.declared.crossing.Crossing.{Crossing}
-use Rattle.tlua_top.specs.Tokens.{Text}
+use Rattle.tlua_top.specs.Words.{Text}
 use Rattle.tlua_top.specs.Outcome.{Ending}
 use Rattle.tlua_top.specs.Lines.{crossing_lines, kind_line}
 

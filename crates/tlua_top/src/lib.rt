@@ -1,14 +1,14 @@
-//! The top call of tlua: from the words to the exit status.
+//! The call of tlua over the whole language, from the words to the exit status. The program takes it once typed modules are checked here.
 #![tactic(auto)]
 
-mod check;
-mod deliver;
-mod ended;
+mod accept;
+mod asked;
 mod laws;
 mod output;
-mod reader;
 mod report;
 mod run;
+mod serve;
+mod start;
 mod status;
 mod top;
 mod words;

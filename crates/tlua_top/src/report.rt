@@ -1,8 +1,11 @@
 ghost use Rattle.std.specs.Prelude.{◌≡◌, ◌<◌, ◌++◌, flat_map, decimal, IfOk, OnOk};
-ghost use Rattle.std.specs.Fmt.{signed_decimal};
-ghost use Rattle.tlua_top.specs.Lines.{place_text, refusal_line, crossing_text, crossing_line, crossing_lines, escaped, hex_digit};
+ghost use Rattle.lua_machine.specs.World.{kind_error_of};
+ghost use Rattle.tlua_top.specs.Lines.{place_text, refusal_line, crossing_text, crossing_line, crossing_lines, first_crossing, kind_lines, last_line, escaped, hex_digit};
+ghost use Rattle.tlua_top.specs.Serving.{over_of};
 
+use crate::serve::Over;
 use itoa::Buffer;
+use lua_values::raw_text;
 use std::alloc::Global;
 use tl_base::{Bytes, Crossing, NoMemory, Pos, Refusal};
 
@@ -27,7 +30,7 @@ pub fn push_place(to: &mut Bytes, file: &[u8], pos: Pos) -> Result<(), NoMemory>
 
 /// The line of a refusal.
 pub fn refusal_line(alloc: Global, file: &[u8], refusal: Refusal) -> Result<Bytes, NoMemory>
-    ensures { IfOk result (λ line. line ≡ refusal_line file.now refusal.code refusal.pos) }
+    ensures { IfOk result (λ line. line ≡ refusal_line file.now refusal) }
 {
     let mut line = Bytes::from_slice(alloc, b"refused ")?;
     push_place(&mut line, file, refusal.pos)?;
@@ -94,10 +97,64 @@ pub fn push_error_text(to: &mut Bytes, text: &[u8]) -> Result<(), NoMemory>
     Ok(())
 }
 
-/// Puts a number's decimal digits behind a text, with a minus where it is negative.
-pub fn push_signed(to: &mut Bytes, number: i64) -> Result<(), NoMemory>
-    ensures { OnOk result (to.new ≡ to.old ++ signed_decimal number) }
+fn push_first_crossing(
+    to: &mut Bytes,
+    file: &[u8],
+    crossing: Option<Crossing>,
+) -> Result<(), NoMemory>
+    ensures { OnOk result (to.new ≡ to.old ++ first_crossing file.now crossing) }
 {
-    let mut buffer = Buffer::new();
-    to.extend(buffer.format(number).as_bytes())
+    match crossing {
+        None => to.extend(b"none"),
+        Some(crossing) => push_crossing(to, file, crossing),
+    }
+}
+
+/// Puts the line of a run's first operand-kind error behind a text, if there is one: its place, and the first crossing passed before it.
+pub fn push_kind_lines(
+    to: &mut Bytes,
+    file: &[u8],
+    error: Option<(Pos, Option<Crossing>)>,
+) -> Result<(), NoMemory>
+    ensures { OnOk result (to.new ≡ to.old ++ kind_lines file.now (kind_error_of error)) }
+{
+    match error {
+        None => Ok(()),
+        Some((place, after)) => {
+            to.extend(b"kind ")?;
+            push_place(to, file, place)?;
+            to.extend(b" after ")?;
+            push_first_crossing(to, file, after)?;
+            to.extend(b"\n")
+        }
+    }
+}
+
+/// Puts the last line of a run behind a text: how it is over, and the turns that it used.
+pub fn push_last_line(
+    alloc: Global,
+    to: &mut Bytes,
+    over: &Over,
+    turns: u64,
+) -> Result<(), NoMemory>
+    ensures { OnOk result (to.new ≡ to.old ++ last_line (over_of over.now) turns) }
+{
+    match over {
+        Over::Done => {
+            to.extend(b"done ")?;
+            push_number(to, turns)?;
+        }
+        Over::Raised(value) => {
+            to.extend(b"error ")?;
+            push_number(to, turns)?;
+            to.extend(b" ")?;
+            let text = raw_text(alloc, value)?;
+            push_error_text(to, text.bytes())?;
+        }
+        Over::Spent => {
+            to.extend(b"cut ")?;
+            push_number(to, turns)?;
+        }
+    }
+    to.extend(b"\n")
 }

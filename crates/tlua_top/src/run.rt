@@ -1,86 +1,95 @@
-//! The run of a straight-line module.
+//! A program's run, with what is reported of it.
 
-ghost use Rattle.std.specs.Prelude.{◌≡◌, ℕ, List, IfOk};
-ghost use Rattle.line_tree.specs.Tree.{lines_of};
-ghost use Rattle.tlua_top.specs.Defined.{run_of};
-ghost use Rattle.tlua_top.specs.Ended.{IsRun};
+ghost use Rattle.std.specs.Prelude.{◌≡◌, ◌⊎◌, ◌++◌, ℕ, List, IfOk, IsErrOf};
+ghost use Rattle.tl_edge.specs.Edge.{HasCause, Rose};
+ghost use Rattle.tlua_top.specs.Outcome.{Stopped, Delivers};
+ghost use Rattle.tlua_top.specs.Output.{Reports};
+ghost use Rattle.tlua_top.specs.Defined.{status_of};
+ghost use Rattle.tlua_top.specs.Asked.{run_ending};
+ghost use Rattle.tlua_top.specs.Serving.{over_of, lines_after, IsOfRun};
 
-mod evaluate;
-mod execute;
-mod state;
-mod value;
-
-use crate::run::execute::execute_all;
-pub use crate::run::state::FirstError;
-use crate::run::state::{Machine, Stop};
-use line_tree::Chunk;
+use crate::accept::Program;
+use crate::output::{report_lines, stopped_by, write_all};
+use crate::report::{push_kind_lines, push_last_line};
+use crate::serve::{Over, serve};
+use crate::start::{BUDGET, Started, start};
+use crate::status::Status;
+use lua_machine::Machine;
 use std::alloc::Global;
-use tl_base::{Bytes, NoMemory, Turns};
+use tl_base::{Bytes, NoMemory};
+use tl_edge::Sink;
 
-/// How many turns a run may take.
-const BUDGET: u64 = 10_000_000;
-
-/// How a run ended.
-#[derive(Debug, Drop)]
-pub enum Outcome {
-    Normal,
-    /// with an error of this text, which nothing caught
-    Failed(Bytes),
-    /// its turns were used up
-    Spent,
-}
-
-/// What a run came to.
-#[derive(Debug, Drop)]
-pub struct Ran {
-    pub output: Bytes,
-    pub outcome: Outcome,
-    /// the turns used
-    pub turns: u64,
-    pub error: Option<FirstError>,
-}
-
-/// What the machine came to, and how.
-fn finished(machine: Machine, outcome: Outcome, turns: u64) -> Ran
-    ensures output { result.output ≡ machine.output }
-    ensures outcome { result.outcome ≡ outcome }
-    ensures turns { result.turns ≡ turns }
-    ensures error { result.error ≡ machine.error }
+/// The report's lines behind a run.
+fn lines_after(
+    alloc: Global,
+    file: &[u8],
+    machine: &Machine,
+    over: &Over,
+) -> Result<Bytes, NoMemory>
+    ensures { IfOk result (λ lines. lines ≡ lines_after file.now over.now machine.now) }
 {
-    let Machine {
-        file: _,
-        kind: _,
-        output,
-        mark: _,
-        error,
-    } = machine;
-    Ran {
-        output,
-        outcome,
-        turns,
-        error,
+    let mut lines = Bytes::new(alloc);
+    push_kind_lines(&mut lines, file, machine.first_kind_error())?;
+    let turns = BUDGET.saturating_sub(machine.turns_left());
+    push_last_line(alloc, &mut lines, over, turns)?;
+    Ok(lines)
+}
+
+/// The status of a call whose program ran to this end.
+fn status_of(over: &Over) -> Status
+    ensures status { result ≡ status_of (over_of over.now) }
+    ensures settled { Stopped result → ⊥ }
+    ensures kind { IsOfRun result }
+{
+    match over {
+        Over::Done => Status::Done,
+        Over::Raised(_) => Status::LuaError,
+        Over::Spent => Status::TurnsSpent,
     }
 }
 
-/// Runs a module from the file of this word.
-pub fn run(alloc: Global, file: &[u8], chunk: &Chunk) -> Result<Ran, NoMemory>
-    ensures { (input : List ℕ) → IfOk result (λ r. IsRun r (run_of file.now input chunk.now.kind (lines_of chunk.now.body))) }
+/// Reports how a run is over.
+fn report_end<R: Sink>(
+    alloc: Global,
+    file: &[u8],
+    machine: &Machine,
+    over: &Over,
+    report: &mut R,
+) -> Status
+    ensures bytes { Reports (R.written report.old) (R.written report.new) (lines_after file.now over.now machine.now) (status_of (over_of over.now)) result }
+    ensures kind { IsOfRun result }
+    ensures cause { HasCause (R.faults report.old) (R.faults report.new) (result ≡ Status.WriteFault) }
 {
-    let mut machine = Machine {
-        file: Bytes::from_slice(alloc, file)?,
-        kind: chunk.kind,
-        output: Bytes::new(alloc),
-        mark: None,
-        error: None,
+    match lines_after(alloc, file, machine, over) {
+        Ok(lines) => report_lines(report, lines.as_slice(), status_of(over)),
+        Err(NoMemory) => Status::NoMemory,
+    }
+}
+
+/// Runs a program: its crossings are reported, then its output is written as it comes, then its end is reported.
+pub fn run_program<O: Sink, R: Sink>(
+    alloc: Global,
+    program: Program,
+    output: &mut O,
+    report: &mut R,
+) -> Status
+    ensures bytes { (input : List ℕ) → Delivers (λ e. e ≡ run_ending input program) result (O.written output.old) (O.written output.new) (R.written report.old) (R.written report.new) }
+    ensures kind { IsOfRun result }
+    ensures write_fault { result ≡ Status.WriteFault → Rose (O.faults output.old) (O.faults output.new) ⊎ Rose (R.faults report.old) (R.faults report.new) }
+{
+    let Started {
+        file,
+        ahead,
+        mut machine,
+    } = match start(alloc, program) {
+        Ok(started) => started,
+        Err(NoMemory) => return Status::NoMemory,
     };
-    let mut turns = Turns { left: BUDGET };
-    if !turns.take() {
-        return Ok(finished(machine, Outcome::Spent, 0));
+    if let Err(error) = write_all(report, ahead.as_slice()) {
+        return stopped_by(error);
     }
-    let used = BUDGET - turns.left;
-    match execute_all(alloc, chunk.body.as_slice(), &mut machine) {
-        Ok(()) => Ok(finished(machine, Outcome::Normal, used)),
-        Err(Stop::Raised(text)) => Ok(finished(machine, Outcome::Failed(text), used)),
-        Err(Stop::NoMemory) => Err(NoMemory),
+    match serve(&mut machine, output) {
+        Ok(over) => report_end(alloc, file.as_slice(), &machine, &over, report),
+        Err(status) => status,
     }
 }

@@ -2,17 +2,19 @@ ghost use Rattle.std.specs.Prelude.{◌≡◌, ◌⊎◌, ℕ, List, Some, None,
 ghost use Rattle.tl_edge.specs.Edge.{Rose};
 ghost use Rattle.tl_edge.specs.declared.outside.FileBytes.{FileBytes as TheFile};
 ghost use Rattle.tlua_top.specs.Outcome.{Ending, Stopped, Meets};
-ghost use Rattle.tlua_top.specs.Defined.{file_to_run, kind_to_read, Defined};
+ghost use Rattle.tlua_top.specs.Words.{file_to_run, kind_to_read};
+ghost use Rattle.tlua_top.specs.Defined.{Defined};
 ghost use Rattle.tlua_top.specs.Sound.{IsSound};
 
-use crate::deliver::deliver;
-use crate::ended::{Unknown, settle};
+use crate::asked::{Asked, Unknown, settle};
+use crate::output::report_lines;
+use crate::run::run_program;
 use crate::status::Status;
 use std::alloc::Global;
 use tl_edge::{Files, Sink, Source};
 
 /// Does what the words ask for. The words are those after the program's name. The program's own output goes to `output`, and all that
-/// is said of it to `report`. A straight-line module reads no input, so `input` is left alone.
+/// is said of it to `report`. No program reads input yet, so `input` is left alone.
 pub fn tlua<F: Files, I: Source, O: Sink, R: Sink>(
     alloc: Global,
     words: &[String],
@@ -42,7 +44,8 @@ pub fn tlua<F: Files, I: Source, O: Sink, R: Sink>(
     ensures write_fault { result ≡ Status.WriteFault → Rose (O.faults output.old) (O.faults output.new) ⊎ Rose (R.faults report.old) (R.faults report.new) }
 {
     match settle(alloc, words, files) {
-        Ok(ended) => deliver(output, report, &ended),
+        Ok(Asked::Report(status, line)) => report_lines(report, line.as_slice(), status),
+        Ok(Asked::Run(program)) => run_program(alloc, program, output, report),
         Err(Unknown::ReadFault) => Status::ReadFault,
         Err(Unknown::NoMemory) => Status::NoMemory,
     }

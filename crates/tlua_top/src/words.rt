@@ -1,6 +1,6 @@
 ghost use Rattle.std.specs.Prelude.{◌≡◌, map, string_bytes};
 ghost use Rattle.std.specs.Option.{option_map};
-ghost use Rattle.tlua_top.specs.Defined.{is_option, file_behind, file_to_run, ends_with, kind_of_word};
+ghost use Rattle.tlua_top.specs.Words.{is_option, file_behind, file_to_run, ends_with, kind_of_word};
 
 use tl_base::ModuleKind;
 

@@ -74,7 +74,8 @@ fn a_failing_call_stops_a_run(rt: HostRuntime) -> Result<(), Fail> {
         (0, 1, 0, Status::WriteFault, "", ahead),
         (0, 1, 2, Status::WriteFault, "", ahead),
         (0, 0, 2, Status::WriteFault, "16\nb\n", ahead),
-        (2, 2, 3, Status::Done, "16\nb\n", all),
+        (0, 2, 0, Status::WriteFault, "16\n", ahead),
+        (2, 3, 3, Status::Done, "16\nb\n", all),
     ] {
         let failing = Failing {
             files,

@@ -98,34 +98,30 @@ fn typed_modules_with_a_fault_are_refused(rt: HostRuntime) -> Result<(), Fail> {
 
 #[test]
 fn other_typed_modules_are_refused(rt: HostRuntime) -> Result<(), Fail> {
-    for text in [
-        "print(x)",
-        "x = 1",
-        "local x = x",
-        "local x = 1 print(y)",
-        "local print = 1",
-        "local x = print",
-        "print = 1",
-        "local end = 1",
-        "local and: any = 1",
-        "local local = 1",
-        "local nil = 1",
-        "local x: number = 1",
-        "local x: x = 1",
-        "local x: true = true",
-        "local x: integer",
-        "local x",
-        "local x, y = 1, 2",
-        "local x == 1",
-        "local 1 = 1",
-        "local x = (1)",
-        "local x = -1",
-        "local x = 1 / 2",
-        "local x = 1;",
-        "local x = 1 x",
-        "print(1",
-        "print()",
-        "return",
+    for (text, line) in [
+        ("print(x)", "refused main.tl:1:7 S1\n"),
+        ("x = 1", "refused main.tl:1:1 S1\n"),
+        ("local x = x", "refused main.tl:1:11 S1\n"),
+        ("print = 1", "refused main.tl:1:1 S2\n"),
+        ("local end = 1", "refused main.tl:1:7 P1\n"),
+        ("local x = 1 / 2", "refused main.tl:1:13 P2\n"),
+        ("local x == 1", "refused main.tl:1:9 P1\n"),
+        ("print(1", "refused main.tl:1:8 P1\n"),
+        ("local print = 1", "refused main.tl:1:1 X1\n"),
+        ("local x = print", "refused main.tl:1:1 X1\n"),
+        ("local x: number = 1", "refused main.tl:1:1 X1\n"),
+        ("local x: true = true", "refused main.tl:1:1 X1\n"),
+        ("local x: integer", "refused main.tl:1:1 X1\n"),
+        ("local x, y = 1, 2", "refused main.tl:1:1 X1\n"),
+        ("local x = (1)", "refused main.tl:1:1 X1\n"),
+        ("local x = -1", "refused main.tl:1:1 X1\n"),
+        ("local x = 1;", "refused main.tl:1:1 X1\n"),
+        ("print()", "refused main.tl:1:1 X1\n"),
+        ("return", "refused main.tl:1:1 X1\n"),
+        (
+            "local n: integer = \"s\" return",
+            "refused main.tl:1:1 X1\n",
+        ),
     ] {
         check_run(
             &rt,
@@ -134,25 +130,26 @@ fn other_typed_modules_are_refused(rt: HostRuntime) -> Result<(), Fail> {
             text.as_bytes(),
             Status::Refused,
             "",
-            "refused main.tl:1:1 X1\n",
+            line,
         )?;
     }
     Ok(())
 }
 
-/// A module that has its middle part so many times runs and prints this, or is refused where nothing is to be printed.
+/// A module that has its middle part so many times runs and prints this, or is refused so where nothing is to be printed.
 fn check_repeated<R: Abort>(
     rt: &R,
     alloc: Global,
     parts: (&str, &str, &str),
     count: u32,
     printed: &str,
+    line: &str,
 ) -> Result<(), Fail> {
     let text = repeated(alloc, parts.0, parts.1, count, parts.2)?;
-    let (status, line) = if printed.is_empty() {
-        (Status::Refused, "refused main.tl:1:1 X1\n")
+    let status = if printed.is_empty() {
+        Status::Refused
     } else {
-        (Status::Done, "done 1\n")
+        Status::Done
     };
     check_run(rt, alloc, "main.tl", text.as_bytes(), status, printed, line)
 }
@@ -164,13 +161,15 @@ fn typed_modules_have_200_locals_and_200_atoms(rt: HostRuntime) -> Result<(), Fa
     let sum = ("local x = 0 x = x", " + 1", " print(x)");
     let difference = ("local x = 0 local y = x", " - 1", " print(y)");
     let product = ("local x = 2 print(x, 1", " * x", ")");
-    check_repeated(&rt, alloc, locals, 199, "199\n")?;
-    check_repeated(&rt, alloc, locals, 200, "")?;
-    check_repeated(&rt, alloc, sum, 199, "199\n")?;
-    check_repeated(&rt, alloc, sum, 200, "")?;
-    check_repeated(&rt, alloc, difference, 200, "")?;
-    check_repeated(&rt, alloc, product, 199, "2\t0\n")?;
-    check_repeated(&rt, alloc, product, 200, "")
+    let done = "done 1\n";
+    let other = "refused main.tl:1:1 X1\n";
+    check_repeated(&rt, alloc, locals, 199, "199\n", done)?;
+    check_repeated(&rt, alloc, locals, 200, "", "refused main.tl:1:3203 S5\n")?;
+    check_repeated(&rt, alloc, sum, 199, "199\n", done)?;
+    check_repeated(&rt, alloc, sum, 200, "", other)?;
+    check_repeated(&rt, alloc, difference, 200, "", other)?;
+    check_repeated(&rt, alloc, product, 199, "2\t0\n", done)?;
+    check_repeated(&rt, alloc, product, 200, "", other)
 }
 
 #[test]

@@ -90,7 +90,6 @@ fn files_of_the_greatest_length(rt: HostRuntime) -> Result<(), Fail> {
     let alloc = rt.alloc();
     for (name, length, filler, status, line) in [
         ("main.lua", 1048576, b' ', Status::Done, "done 1\n"),
-        ("main.tl", 1048576, b' ', Status::Done, "done 1\n"),
         (
             "main.lua",
             1048577,
@@ -110,7 +109,7 @@ fn files_of_the_greatest_length(rt: HostRuntime) -> Result<(), Fail> {
             1048576,
             b'?',
             Status::Refused,
-            "refused main.lua:1:1 X1\n",
+            "refused main.lua:1:1 P1\n",
         ),
         (
             "main.lua",

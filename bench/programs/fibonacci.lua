@@ -1,0 +1,6 @@
+-- recursive calls: some 2.7 million of them
+local function fibonacci(n)
+  if n < 2 then return n end
+  return fibonacci(n - 1) + fibonacci(n - 2)
+end
+print(fibonacci(30))

@@ -1,2 +1,0 @@
-pub mod Crossings
-mod Vectors

@@ -1,5 +1,0 @@
-pub mod Checked
-pub mod Crossings
-pub mod Locals
-pub mod Rules
-pub mod Types

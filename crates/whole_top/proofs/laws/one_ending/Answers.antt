@@ -1,5 +1,0 @@
-use Rattle.whole_top.proofs.Once.{defined_once}
-use Rattle.whole_top.proofs.laws.one_ending.Goals as goal
-
-pub returns : goal.returns
-returns c = defined_once

@@ -1,9 +1,0 @@
-pub mod Asked
-pub mod Defined
-pub mod Lines
-pub mod Outcome
-pub mod Output
-pub mod Phases
-pub mod Serving
-pub mod Sound
-pub mod Words

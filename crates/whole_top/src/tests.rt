@@ -1,4 +1,0 @@
-mod calls;
-mod laws;
-mod untyped;
-mod words;
