@@ -323,6 +323,9 @@ fn operators_bind_by_their_levels(rt: HostRuntime) -> Result<(), Fail> {
 
 #[test]
 fn a_call_on_the_next_line_goes_on(rt: HostRuntime) -> Result<(), Fail> {
-    assert_eq!(rt; answer(rt.alloc(), "f\n(g)()")?.as_str(), "(call (call f g))");
+    assert_eq!(rt;
+        answer(rt.alloc(), "f\n(g)()")?.as_str(),
+        "(call (call f g))"
+    );
     Ok(())
 }
