@@ -22,13 +22,13 @@ f.x[y].z  (. (at (. f x) y) z)
 f()  (call f)
 f(1, nil)  (call f 1 nil)
 f 'a'  (call f 'a')
-f {1}  (call f {1})
+f {1}  (call f { 1})
 f:m()  (method f m)
 f:m 'a' (1)  (call (method f m 'a') 1)
 f.x:m(1).y  (. (method (. f x) m 1) y)
 {}  {}
-{1, x; y = 2, [3] = 4,}  {1 x y=2 [3]=4}
-{x.y, f()}  {(. x y) (call f)}
+{1, x; y = 2, [3] = 4,}  { 1 x y=2 [3]=4}
+{x.y, f()}  { (. x y) (call f)}
 function() end  function
 function(a, ...) return 1 end  function
 a or b or c  (or (or a b) c)
@@ -160,14 +160,10 @@ fn put_named<'a>(
 }
 
 fn put_table<'a>(todo: &mut Vec<Piece<'a>>, entries: &'a [Entry]) -> Result<(), AllocError> {
-    let mut behind = "}";
+    todo.push(Piece::Word("}"))?;
     for entry in entries.iter().rev() {
-        todo.push(Piece::Word(behind))?;
         todo.push(Piece::Entry(entry))?;
-        behind = " ";
-    }
-    if entries.is_empty() {
-        todo.push(Piece::Word("}"))?;
+        todo.push(Piece::Word(" "))?;
     }
     todo.push(Piece::Word("{"))?;
     Ok(())
