@@ -1,8 +1,8 @@
 -- Where the parts of a type have too many nodes, there is no type.
-use Rattle.std.proofs.Common.{◌≡◌, ℕ, ◌+◌, ◌<◌, ◌≤◌, Bool, true, false, ◌&&◌, cond, List, [], ◌∷◌, ◌++◌, map, length, get_or, take, drop, refl, ap, ◌∙◌, sym, subst, arith}
-use Rattle.std.specs.Prelude.{Option, Some, None, IfSome, nat_le, nat_lt, sum_by}
+use Rattle.std.proofs.Common.{◌≡◌, ℕ, ◌+◌, ◌<◌, ◌≤◌, Bool, true, false, cond, List, [], ◌∷◌, ◌++◌, map, length, get_or, take, drop, refl, ap, ◌∙◌, sym, subst, arith}
+use Rattle.std.specs.Prelude.{Option, Some, None, IfSome, nat_lt, sum_by}
 use Rattle.std.specs.Option.{option_map, option_and_then}
-use Rattle.std.proofs.lemmas.Bool.{lt-leb, lt-ltb, ltb-true, ltb-false}
+use Rattle.std.proofs.lemmas.Bool.{lt-ltb, ltb-true, ltb-false}
 use Rattle.std.proofs.lemmas.List.{take-append-drop, map-append}
 use Rattle.std.proofs.lemmas.List.Sums.{sum_by-append}
 use Rattle.tl_types.specs.declared.types.Ty.{Ty}
@@ -10,11 +10,11 @@ use Rattle.tl_types.specs.declared.types.Ty.TheVariants as ty
 use Rattle.tl_types.specs.declared.types.TupleOf.{TupleOf}
 use Rattle.tl_types.specs.declared.types.ResultsOf.{ResultsOf}
 use Rattle.tl_types.specs.Types.{Field}
-use Rattle.tl_types.specs.Sizes.{type_size, type_depth, is_within}
+use Rattle.tl_types.specs.Sizes.{type_size}
 use Rattle.tl_types.specs.Parts.{size_tuple}
 use Rattle.tl_types.specs.Unions.{union_form}
 use Rattle.tl_types.proofs.Measures.{size_rec, size_of_func, size_map}
-use Rattle.type_reader.specs.Types.{both, every, limited, func_type, tuple_type, body_type}
+use Rattle.type_reader.specs.Types.{both, every, limited, func_type, tuple_type}
 use Rattle.type_reader.specs.Gathered.{Gathers, GathersMembers, StandFor, room_for, nodes_of_types, nodes_of_fields, nodes_of_tuples, nodes_of_results}
 use Rattle.type_reader.proofs.Limits.{too_large}
 use Rattle.type_reader.proofs.Every.{every-append, every_more, every_stop, map_twice}

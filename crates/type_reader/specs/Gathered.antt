@@ -1,5 +1,5 @@
 -- What is gathered of a type's parts while they are read. It stops where they alone have too many nodes.
-use Rattle.std.specs.Prelude.{◌≡◌, ℕ, ◌+◌, ◌<◌, ◌≤◌, Bool, true, cond, not, nat_lt, List, ◌++◌, filter, flat_map, sum_by, Option, Some, None, IfSome}
+use Rattle.std.specs.Prelude.{◌≡◌, ℕ, ◌+◌, ◌≤◌, Bool, true, cond, not, nat_lt, List, ◌++◌, filter, flat_map, sum_by, Option, Some, None, IfSome}
 use Rattle.tl_types.specs.declared.types.Ty.{Ty, out-Ty}
 use Rattle.tl_types.specs.declared.types.TupleOf.{TupleOf}
 use Rattle.tl_types.specs.declared.types.ResultsOf.{ResultsOf}

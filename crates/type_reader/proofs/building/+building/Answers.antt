@@ -1,11 +1,10 @@
-use Rattle.std.proofs.Common.{◌≡◌, ◌≤◌, ◌+◌, ◌∷◌, ◌++◌, [], List, arith, ap, sym, ◌∙◌, subst, map, take}
-use Rattle.std.specs.Prelude.{Option, Some, None, IfOk, sum_by}
+use Rattle.std.proofs.Common.{◌≡◌, ◌≤◌, ◌+◌, ◌∷◌, ◌++◌, [], arith, ap, sym, ◌∙◌, subst, map}
+use Rattle.std.specs.Prelude.{Option, Some, None, IfOk}
 use Rattle.std.specs.Option.{option_map}
 use Rattle.std.proofs.lemmas.Option.{IfSome_then}
 use Rattle.std.proofs.lemmas.List.Sums.{sum_by_push}
 use Rattle.tl_types.specs.declared.types.Ty.{Ty}
 use Rattle.tl_types.specs.declared.types.Ty.TheVariants as ty
-use Rattle.tl_types.specs.declared.types.TupleOf.{TupleOf}
 use Rattle.tl_types.specs.Types.{Field}
 use Rattle.tl_types.specs.Parts.{size_tuple}
 use Rattle.tl_types.specs.Sizes.{type_size}
