@@ -45,7 +45,7 @@ module _ {A B : Type 0} (f : A → Option B) where
       let lt : i < length xs = omega arith in
       ap (both push (f x)) (every_stop xs i d lt here) ∙ both_none (f x)
 
-map_twice : {A B C : Type 0} (h : B → C) (g : A → B) (xs : List A) → map h (map g xs) ≡ map (λ x. h (g x)) xs
+pub map_twice : {A B C : Type 0} (h : B → C) (g : A → B) (xs : List A) → map h (map g xs) ≡ map (λ x. h (g x)) xs
 map_twice h g [] = refl
 map_twice h g (x ∷ xs) = ap (λ r. h (g x) ∷ r) (map_twice h g xs)
 

@@ -3,7 +3,7 @@ use Rattle.std.proofs.Common.{◌≡◌, ℕ, zero, suc, ◌<◌, ◌≤◌, len
 use Rattle.std.specs.Prelude.{flat_map, Some, None}
 use Rattle.std.specs.Option.{option_or}
 use Rattle.std.proofs.lemmas.List.{drop_all}
-use Rattle.type_reader.specs.declared.refusals.RefusalCode.TheVariants as code
+use Rattle.tl_base.specs.declared.refusal.RefusalCode.TheVariants as code
 use Rattle.tl_base.specs.declared.place.Pos.{Pos}
 use Rattle.std.specs.List.{list_all}
 use Rattle.std.proofs.lemmas.List.Folds.{list_all-append}

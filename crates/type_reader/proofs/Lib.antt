@@ -10,3 +10,6 @@ pub mod Flags
 pub mod Readings
 pub mod Indexing
 pub mod Straight
+pub mod Limits
+pub mod Gathered
+pub mod Standing

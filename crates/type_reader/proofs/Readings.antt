@@ -1,8 +1,8 @@
 -- What has been read so far of annotations and of declarations.
 use Rattle.std.proofs.Common.{◌≡◌, ℕ, zero, suc, ◌+◌, ◌<◌, List, [], ◌∷◌, ◌++◌, map, length, get_or, take, drop, refl, ap, ◌∙◌, sym, arith, add-one, subst}
 use Rattle.std.specs.Prelude.{Option, Some, None, Result, Err}
-use Rattle.type_reader.specs.declared.refusals.Failure.{Failure}
-use Rattle.type_reader.specs.declared.refusals.Failure.TheVariants as failure
+use Rattle.tl_base.specs.declared.refusal.Failure.{Failure}
+use Rattle.tl_base.specs.declared.refusal.Failure.TheVariants as failure
 use Rattle.lua_tree.specs.declared.scoped.Scoped.{Scoped}
 use Rattle.type_reader.specs.declared.names.TypeNames.{TypeNames}
 use Rattle.type_reader.specs.declared.reading.Read.{Read}

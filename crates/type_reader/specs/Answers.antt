@@ -1,7 +1,7 @@
 -- What the answers of checks say.
 use Rattle.std.specs.Prelude.{◌≡◌, Some, None, Result, Ok, Err}
-use Rattle.type_reader.specs.declared.refusals.Failure.{Failure}
-use Rattle.type_reader.specs.declared.refusals.Failure.TheVariants as failure
+use Rattle.tl_base.specs.declared.refusal.Failure.{Failure}
+use Rattle.tl_base.specs.declared.refusal.Failure.TheVariants as failure
 use Rattle.type_reader.specs.Faults.{Fault}
 
 -- there is no fault, or the refusal is the fault, or memory ran out

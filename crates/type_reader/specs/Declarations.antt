@@ -4,7 +4,7 @@ use Rattle.std.specs.List.{list_any, flat_map}
 use Rattle.std.specs.Option.{option_or, option_map_or}
 use Rattle.std.specs.Str.{bytes_eq}
 use Rattle.tl_base.specs.declared.place.Pos.{Pos}
-use Rattle.type_reader.specs.declared.refusals.RefusalCode.TheVariants as code
+use Rattle.tl_base.specs.declared.refusal.RefusalCode.TheVariants as code
 use Rattle.lua_tree.specs.declared.annotation.Name.{Name}
 use Rattle.lua_tree.specs.declared.annotation.TypeExpr.{TypeExpr}
 use Rattle.lua_tree.specs.declared.annotation.TypeField.{TypeField}

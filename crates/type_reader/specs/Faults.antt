@@ -4,10 +4,9 @@ use Rattle.std.specs.List.{list_all, list_any}
 use Rattle.std.specs.Option.{option_or, option_map_or}
 use Rattle.std.specs.Str.{bytes_eq}
 use Rattle.tl_base.specs.declared.place.Pos.{Pos}
-use Rattle.type_reader.specs.declared.refusals.Refusal.{Refusal}
-use Rattle.type_reader.specs.declared.refusals.RefusalCode.{RefusalCode}
-use Rattle.type_reader.specs.declared.refusals.RefusalCode.TheVariants as code
-use Rattle.lua_tree.specs.declared.annotation.Name.{Name}
+use Rattle.tl_base.specs.declared.refusal.Refusal.{Refusal}
+use Rattle.tl_base.specs.declared.refusal.RefusalCode.{RefusalCode}
+use Rattle.tl_base.specs.declared.refusal.RefusalCode.TheVariants as code
 use Rattle.lua_tree.specs.declared.annotation.TypeExpr.{TypeExpr, fold-TypeExpr}
 use Rattle.lua_tree.specs.declared.annotation.TypeExpr.TheOpen as written
 use Rattle.lua_tree.specs.declared.annotation.TypeExpr.TheOpen.{TypeExpr-F, TypeField-F, TypeResults-F, TypeTuple-F}
@@ -58,16 +57,17 @@ pub record Told : Type 0 where
   pub fault : Fault
   pub key : Bool
 
--- a field: its name, and the first fault of its type
+-- a field: its place, its name, and the first fault of its type
 pub record ToldField : Type 0 where
-  pub name : Name
+  pub place : Pos
+  pub name : List ℕ
   pub fault : Fault
 
 -- each field after those of these names
 abbrev pub fields_fault : List (List ℕ) → List ToldField → Fault
 fields_fault before [] = None
 fields_fault before (f ∷ fs) =
-    option_or (fault_where (list_any (bytes_eq f.name.text) before) code.Y3 f.name.pos) (option_or f.fault (fields_fault (before ++ f.name.text ∷ []) fs))
+    option_or (fault_where (list_any (bytes_eq f.name) before) code.Y3 f.place) (option_or f.fault (fields_fault (before ++ f.name ∷ []) fs))
 
 abbrev pub no_key : Pos → Fault → Told
 no_key p f = record { place = p; fault = f; key = false }
@@ -98,7 +98,7 @@ expr_at names (written.Function p ps rs) = no_key p (option_or ps rs)
 expr_at names (written.Union p ts) = record { place = p; fault = first_of (map (λ t. t.fault) ts); key = list_all (λ t. t.key) ts }
 
 abbrev pub field_at : TypeField-F Told ToldField Fault Fault → ToldField
-field_at f = record { name = f.name; fault = f.ty.fault }
+field_at f = record { place = f.pos; name = f.name.text; fault = f.ty.fault }
 
 abbrev pub results_at : TypeResults-F Told ToldField Fault Fault → Fault
 results_at r = first_of r.tuples

@@ -14,3 +14,4 @@ pub mod Indexed
 pub mod Rising
 pub mod Ranks
 pub mod Outcomes
+pub mod Gathered

@@ -1,6 +1,6 @@
 -- What the answers of reading say.
 use Rattle.std.specs.Prelude.{◌≡◌, ℕ, List, map, Result, Some, IfOk}
-use Rattle.type_reader.specs.declared.refusals.Failure.{Failure}
+use Rattle.tl_base.specs.declared.refusal.Failure.{Failure}
 use Rattle.lua_tree.specs.declared.scoped.Scoped.{Scoped}
 use Rattle.type_reader.specs.declared.names.TypeName.{TypeName}
 use Rattle.type_reader.specs.declared.names.TypeNames.{TypeNames}

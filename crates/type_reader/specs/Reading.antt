@@ -3,7 +3,7 @@ use Rattle.std.specs.Prelude.{◌≡◌, ℕ, ◌&&◌, List, [], ◌∷◌, ◌
 use Rattle.std.specs.List.{flat_map}
 use Rattle.std.specs.Option.{option_or, option_map}
 use Rattle.tl_base.specs.declared.place.Pos.{Pos}
-use Rattle.type_reader.specs.declared.refusals.RefusalCode.TheVariants as code
+use Rattle.tl_base.specs.declared.refusal.RefusalCode.TheVariants as code
 use Rattle.lua_tree.specs.declared.annotation.TypeExpr.{TypeExpr}
 use Rattle.lua_tree.specs.declared.annotation.TypeField.{TypeField}
 use Rattle.lua_tree.specs.declared.annotation.TypeResults.{TypeResults, out-TypeResults}

@@ -1,7 +1,7 @@
 ghost use Rattle.std.specs.Prelude.{◌≡◌, not, map, IfOk};
 ghost use Rattle.std.specs.List.{list_all};
-ghost use Rattle.type_reader.specs.declared.refusals.Failure.TheVariants as failure;
-ghost use Rattle.type_reader.specs.declared.refusals.RefusalCode.TheVariants as code;
+ghost use Rattle.tl_base.specs.declared.refusal.Failure.TheVariants as failure;
+ghost use Rattle.tl_base.specs.declared.refusal.RefusalCode.TheVariants as code;
 ghost use Rattle.type_reader.specs.Names.{Names};
 ghost use Rattle.type_reader.specs.Faults.{at, fault_where, first_of, key_fault, type_fault, told_of, record_fault, results_fault, tuple_fault};
 ghost use Rattle.type_reader.specs.Faults.{is_key as is_key_of, is_key_name as is_key_name_of};
@@ -10,10 +10,9 @@ ghost use Rattle.type_reader.specs.Lookups.{built_in_type, names_in};
 
 use crate::lookups::{BuiltIn, Found, Lookups};
 use crate::own_names::OwnNames;
-use crate::refusals::{Failure, Refusal, RefusalCode};
 use lua_tree::{TypeExpr, TypeField, TypeResults, TypeTuple};
 use std::alloc::Global;
-use tl_base::{Bytes, NoMemory, Pos};
+use tl_base::{Bytes, Failure, NoMemory, Pos, Refusal, RefusalCode};
 use tl_types::Ty;
 
 /// Whether a type is a union of `integer`, `string`, `boolean` and literals.
@@ -207,7 +206,7 @@ pub fn check_fields<'a>(
     let mut before = OwnNames::new(alloc);
     for field in fields {
         if !before.add(field.name.text.as_slice())? {
-            return Err(refused(RefusalCode::Y3, field.name.pos));
+            return Err(refused(RefusalCode::Y3, field.pos));
         }
         check_type(alloc, names, &field.ty)?;
     }

@@ -8,10 +8,9 @@ use crate::annotations::Annotation;
 use crate::checking::refused;
 use crate::lookups::built_in_named;
 use crate::own_names::OwnNames;
-use crate::refusals::{Failure, RefusalCode};
 use lua_tree::{Name, TypeExpr, TypeField};
 use std::alloc::Global;
-use tl_base::{NoMemory, Pos};
+use tl_base::{Failure, NoMemory, Pos, RefusalCode};
 
 /// What a type name is declared as.
 #[derive(Clone, Copy)]

@@ -9,18 +9,17 @@ ghost use Rattle.type_reader.specs.Reading.{too_large, circle_fault, type_faults
 ghost use Rattle.type_reader.specs.SeenUses.{used_in};
 ghost use Rattle.type_reader.specs.Types.{type_of as type_of_written, body_of as body_of_written};
 
-use crate::building::{body_of, fields_of, record_type, type_of};
+use crate::building::{body_of, record_of, type_of};
 use crate::checking::{check_fields, check_results, check_type, place_of, refused};
 use crate::circles::is_circular;
 use crate::declarations::{Declaration, Form};
 use crate::graph::Graph;
 use crate::lookups::{Found, Lookups};
-use crate::refusals::{Failure, RefusalCode};
 use crate::typing::{Module, are_typed};
 use crate::uses::Uses;
 use lua_tree::{TypeExpr, TypeField, TypeResults};
 use std::alloc::Global;
-use tl_base::Pos;
+use tl_base::{Failure, Pos, RefusalCode};
 use tl_types::Ty;
 
 /// Where all names that are used have types and yet there is none, it is too large.
@@ -87,7 +86,7 @@ fn check_interface<'a>(
     ensures { Answers (record_faults (names_in names.entry) pos fields.now) result }
 {
     check_fields(alloc, names, fields)?;
-    let ty = record_type(fields_of(alloc, names, fields)?);
+    let ty = record_of(alloc, names, fields)?;
     let mut uses = Uses::new(alloc);
     uses.fields(fields)?;
     check_size(alloc, names, pos, &uses, &ty)

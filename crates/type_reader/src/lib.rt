@@ -11,15 +11,14 @@ mod faults;
 mod graph;
 mod joining;
 mod lookups;
+mod members;
 mod names;
 mod other_names;
 mod own_names;
 mod ranks;
 mod reading;
-mod refusals;
 mod typing;
 mod uses;
 
 pub use names::{TypeName, TypeNames};
 pub use reading::{TypedChunk, read_types};
-pub use refusals::{Failure, Refusal, RefusalCode};

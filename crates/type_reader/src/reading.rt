@@ -21,11 +21,10 @@ use crate::lookups::{BuiltIn, Found, Lookups};
 use crate::names::{TypeName, TypeNames};
 use crate::other_names::OtherNames;
 use crate::ranks::looked_at;
-use crate::refusals::Failure;
 use crate::typing::{Module, find_types};
 use lua_tree::{Scoped, TypeExpr};
 use std::alloc::Global;
-use tl_base::{Bytes, List, NoMemory};
+use tl_base::{Bytes, Failure, List, NoMemory};
 use tl_types::{Field, Ty, boolean};
 
 /// The types of a module's annotations in order of place. The results of a body stand as the function with these results and no listed parameter, which takes

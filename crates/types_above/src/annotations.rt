@@ -6,9 +6,9 @@ use lua_tree::Scoped;
 use std::alloc::{AllocError, Global};
 use std::process::Abort;
 use std::test::Fail;
-use tl_base::{List, ModuleKind};
+use tl_base::{Failure, List, ModuleKind};
 use tl_types::{Field, Func, Interfaces, Text, Tuple, Ty};
-use type_reader::{Failure, TypeNames, TypedChunk, read_types};
+use type_reader::{TypeNames, TypedChunk, read_types};
 
 // Each line is a text, two spaces, and its answer. A `/` stands between the texts of a module `a.b`, read first, and of the module that is answered.
 const TYPES: &str = "\
@@ -44,7 +44,7 @@ typealias integer = nil  1:11 Y3
 interface value end  1:11 Y3
 typealias A = nil interface A end  1:29 Y3
 local x: {x: nil, x: nil}  1:19 Y3
-interface I x: nil, const x: nil end  1:27 Y3
+interface I x: nil, const x: nil end  1:21 Y3
 local x: y typealias A = A typealias B = nil typealias B = nil  1:56 Y3
 local x: {[value]: nil}  1:12 Y4
 local x: {[any]: nil}  1:12 Y4
@@ -268,8 +268,8 @@ fn link(alloc: Global, chain: Chain, number: u32) -> Result<String, AllocError> 
     }
 }
 
-// The number of types that are read of so many links from an alias of `integer`, or the fault.
-fn length(alloc: Global, chain: Chain, links: u32) -> Result<String, AllocError> {
+// So many links from an alias of `integer`.
+fn chain_text(alloc: Global, chain: Chain, links: u32) -> Result<String, AllocError> {
     let mut text = String::new(alloc);
     let end = if matches!(chain, Chain::Backwards) {
         links
@@ -280,8 +280,13 @@ fn length(alloc: Global, chain: Chain, links: u32) -> Result<String, AllocError>
     for number in 0..links {
         text.push_str(&link(alloc, chain, number)?)?;
     }
+    Ok(text)
+}
+
+// The number of types that are read of a text, or the fault.
+fn length(alloc: Global, text: &str) -> Result<String, AllocError> {
     let mut known = no_names(alloc);
-    match read(alloc, "c", &text, &mut known) {
+    match read(alloc, "c", text, &mut known) {
         Ok(read) => format!(in alloc; "{}", read.types.len()),
         Err(failure) => fault(alloc, failure),
     }
@@ -306,7 +311,8 @@ fn chains_agree(
     table: &[(Chain, u32, &str)],
 ) -> Result<(), AllocError> {
     for (chain, links, want) in table {
-        let got = length(alloc, *chain, *links)?;
+        let text = chain_text(alloc, *chain, *links)?;
+        let got = length(alloc, &text)?;
         assert_eq!(rt; got.as_str(), *want, "{chain:?} {links}");
     }
     Ok(())
@@ -315,6 +321,25 @@ fn chains_agree(
 #[test]
 fn types_grow_to_the_limits(rt: HostRuntime) -> Result<(), Fail> {
     chains_agree(&rt, rt.alloc(), &GROWING)?;
+    Ok(())
+}
+
+// The last two doublings that keep within the limit: together they are too large, unless `any` takes their place.
+const UNIONS: [(&str, &str); 3] = [
+    ("A15 | A15", "17"),
+    ("A15 | A14", "17:1 Y1"),
+    ("A15 | A14 | any", "17"),
+];
+
+#[test]
+fn a_union_has_each_member_once(rt: HostRuntime) -> Result<(), Fail> {
+    let alloc = rt.alloc();
+    for (union, want) in UNIONS {
+        let mut text = chain_text(alloc, Chain::Doubled, 15)?;
+        text.push_str(&format!(in alloc; "typealias B = {union}\n")?)?;
+        let got = length(alloc, &text)?;
+        assert_eq!(rt; got.as_str(), want, "{union}");
+    }
     Ok(())
 }
 

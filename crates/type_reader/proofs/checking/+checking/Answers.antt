@@ -1,7 +1,7 @@
 use Rattle.std.proofs.Common.{ap, sym, ◌∙◌, subst}
 use Rattle.std.specs.Prelude.{Some, Err}
-use Rattle.type_reader.specs.declared.refusals.Failure.{Failure}
-use Rattle.type_reader.specs.declared.refusals.RefusalCode.TheVariants as code
+use Rattle.tl_base.specs.declared.refusal.Failure.{Failure}
+use Rattle.tl_base.specs.declared.refusal.RefusalCode.TheVariants as code
 use Rattle.type_reader.specs.Faults.{Told, at, told_of, key_fault}
 use Rattle.type_reader.specs.Answers.{Answers}
 use Rattle.type_reader.specs.Lookups.{names_in}

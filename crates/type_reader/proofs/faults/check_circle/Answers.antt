@@ -1,6 +1,6 @@
 use Rattle.std.proofs.Common.{ap, sym, ◌∙◌, subst, [], is_none}
 use Rattle.std.specs.Prelude.{Err}
-use Rattle.type_reader.specs.declared.refusals.Failure.{Failure}
+use Rattle.tl_base.specs.declared.refusal.Failure.{Failure}
 use Rattle.type_reader.specs.Declarations.{is_circular}
 use Rattle.type_reader.specs.Lent.{declared_in}
 use Rattle.type_reader.specs.Lookups.{names_in}
