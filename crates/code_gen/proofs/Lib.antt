@@ -3,6 +3,7 @@ pub mod Lists
 pub mod Scopes
 pub mod Put
 pub mod Cells
+pub mod Patches
 pub mod Values
 pub mod Marked
 pub mod Seen

@@ -1,4 +1,4 @@
 pub mod Locals
-pub mod Pieces
 pub mod Work
+pub mod Pieces
 pub mod Modules

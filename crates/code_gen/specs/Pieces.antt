@@ -1,11 +1,12 @@
 -- The code of an operation around that of its operands: what stands between them, and what stands behind both.
-use Rattle.std.specs.Prelude.{ℕ, []}
+use Rattle.std.specs.Prelude.{ℕ, [], length}
 use Rattle.tl_base.specs.declared.place.Pos.{Pos}
 use Rattle.lua_tree.specs.declared.syntax.BinaryOperator.{BinaryOperator}
 use Rattle.lua_tree.specs.declared.syntax.BinaryOperator.TheVariants as binary
 use Rattle.lua_code.specs.declared.code.Instr.TheVariants as instr
 use Rattle.lua_code.specs.Generated.{Placed, one}
 use Rattle.std.specs.Prelude.{◌∷◌}
+use Rattle.code_gen.specs.Work.{Work, patched}
 
 -- between them, with a free slot and the place behind the operation
 abbrev pub between : BinaryOperator → Pos → ℕ → ℕ → Placed
@@ -14,6 +15,12 @@ between binary.And p slot end = one (instr.KeepIfNot end) p
 between binary.Greater p slot end = one (instr.SetSlot slot) p
 between binary.GreaterEqual p slot end = one (instr.SetSlot slot) p
 between o p slot end = []
+
+-- once both operands are written, what stands between them, at a place, leads to where the writing stands
+abbrev pub settled : BinaryOperator → Pos → ℕ → Work → Work
+settled binary.Or p at w = patched at (instr.KeepIf (length w.code)) p w
+settled binary.And p at w = patched at (instr.KeepIfNot (length w.code)) p w
+settled o p at w = w
 
 -- behind both
 abbrev pub behind : BinaryOperator → Pos → ℕ → Placed

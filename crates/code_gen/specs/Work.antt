@@ -1,6 +1,6 @@
 -- The code of a program while it is written: what is written of the function at work, the functions that are finished, and the scope.
 -- Each form of the language adds its code, the functions inside it, and the locals that its text declares.
-use Rattle.std.specs.Prelude.{ℕ, ◌+◌, ◌-◌, drop, Bool, true, false, List, [], ◌∷◌, ◌++◌, length}
+use Rattle.std.specs.Prelude.{ℕ, ◌+◌, ◌-◌, drop, Bool, true, false, List, [], ◌∷◌, ◌++◌, length, slice_set}
 use Rattle.tl_base.specs.declared.place.Pos.{Pos}
 use Rattle.lua_tree.specs.Tree as tree
 use Rattle.lua_tree.specs.Tree.{Exp, Multi, Exps, Function, Stat, Clauses, Else, Step, Block}
@@ -13,7 +13,7 @@ use Rattle.lua_code.specs.declared.code.Proto.{Proto}
 use Rattle.lua_code.specs.declared.code.Instr.{Instr}
 use Rattle.lua_code.specs.declared.code.Instr.TheVariants as instr
 use Rattle.lua_tree.specs.Places.{place_of}
-use Rattle.lua_code.specs.Sizes.{block_size}
+use Rattle.lua_code.specs.Sizes.{exp_size, block_size}
 use Rattle.lua_code.specs.Generated.{Placed, one, new_cells, begin_locals, proto_of, Scope, past, in_slots, behind_stat, behind_block, exp_code, multi_code, list_code, step_code, stat_code, clauses_code, else_code, block_code, exp_protos, multi_protos, exps_protos, function_protos, step_protos, stat_protos, clauses_protos, else_protos, block_protos}
 
 pub record Work : Type 0 where
@@ -70,6 +70,22 @@ put_all c w = record w { code = w.code ++ c }
 
 abbrev pub put : Instr → Pos → Work → Work
 put i p w = put_all (one i p) w
+
+-- ---- jumps whose target is set once the place that they lead to is known
+
+-- the instruction at a place of what is written becomes this one, at this position; nothing changes past the end
+unfoldable pub patched : ℕ → Instr → Pos → Work → Work
+patched at i p w = record w { code = slice_set w.code at (i, p) }
+
+-- those at some places
+abbrev pub all_patched : List ℕ → Instr → Pos → Work → Work
+all_patched [] i p w = w
+all_patched (at ∷ ats) i p w = all_patched ats i p (patched at i p w)
+
+-- where the last jump of each clause stands, where the code of the clauses begins at a place
+abbrev pub last_jumps : Clauses → ℕ → List ℕ
+last_jumps tree.no_clause at = []
+last_jumps (tree.clause e b cs) at = (at + exp_size e + 1 + block_size b) ∷ last_jumps cs (at + exp_size e + 1 + block_size b + 1)
 
 -- ---- expressions
 

@@ -147,9 +147,11 @@ impl<'a> Writer<'a> {
             Expr::Binary(pos, operator, left, right) => {
                 let slot = self.free();
                 self.exp(left.get())?;
-                self.between(*operator, *pos, slot, right.get())?;
+                let place = self.place();
+                self.between(*operator, *pos, slot)?;
                 self.set_free(sum(slot, operator_slots(*operator))?);
                 self.exp(right.get())?;
+                self.settle(*operator, *pos, place);
                 self.set_free(slot);
                 self.behind(*operator, *pos, slot)?;
                 Ok(false)

@@ -1,15 +1,11 @@
-ghost use Rattle.std.specs.Prelude.{◌≡◌, ◌+◌, length, OnOk};
-ghost use Rattle.lua_tree.specs.View.{exp_of};
+ghost use Rattle.std.specs.Prelude.{◌≡◌, OnOk};
 ghost use Rattle.lua_code.specs.Generated.{unary_instr as unary_instr_of};
-ghost use Rattle.lua_code.specs.Sizes.{exp_size as exp_size_of};
 ghost use Rattle.code_gen.specs.Work.{put_all};
-ghost use Rattle.code_gen.specs.Pieces.{between as between_them, behind as behind_both};
+ghost use Rattle.code_gen.specs.Pieces.{between as between_them, settled, behind as behind_both};
 
-use crate::sizes::exp_size;
-use crate::sums::sum;
 use crate::writer::Writer;
 use lua_code::Instr;
-use lua_tree::{BinaryOperator, Expr, UnaryOperator};
+use lua_tree::{BinaryOperator, UnaryOperator};
 use tl_base::{NoMemory, Pos};
 
 /// The instruction of an operator before its operand.
@@ -25,26 +21,14 @@ pub fn unary_instr(operator: UnaryOperator) -> Instr
 }
 
 impl<'a> Writer<'a> {
-    /// What stands between the operands of an operation.
+    /// What stands between the operands of an operation. A jump among it leads nowhere yet.
     #[tactic(auto, using(crate::proofs::Put::put_none), unfolding(crate::specs::Work::put_all))]
-    pub fn between(
-        &mut self,
-        operator: BinaryOperator,
-        pos: Pos,
-        slot: u64,
-        right: &Expr,
-    ) -> Result<(), NoMemory>
-        ensures { OnOk result (self.new ≡ put_all (between_them operator pos slot (length self.old.code + exp_size_of (exp_of right.now) + 1)) self.old) }
+    pub fn between(&mut self, operator: BinaryOperator, pos: Pos, slot: u64) -> Result<(), NoMemory>
+        ensures { OnOk result (self.new ≡ put_all (between_them operator pos slot 0) self.old) }
     {
         match operator {
-            BinaryOperator::Or => {
-                let end = sum(sum(self.place(), exp_size(right)?)?, 1)?;
-                self.put(Instr::KeepIf(end), pos)
-            }
-            BinaryOperator::And => {
-                let end = sum(sum(self.place(), exp_size(right)?)?, 1)?;
-                self.put(Instr::KeepIfNot(end), pos)
-            }
+            BinaryOperator::Or => self.put(Instr::KeepIf(0), pos),
+            BinaryOperator::And => self.put(Instr::KeepIfNot(0), pos),
             BinaryOperator::Greater | BinaryOperator::GreaterEqual => {
                 self.put(Instr::SetSlot(slot), pos)
             }
@@ -63,6 +47,34 @@ impl<'a> Writer<'a> {
             | BinaryOperator::Multiply
             | BinaryOperator::Divide
             | BinaryOperator::Modulo => Ok(()),
+        }
+    }
+
+    /// Both operands of an operation are written. The jump between them, at a place, leads to where the writing stands.
+    pub fn settle(&mut self, operator: BinaryOperator, pos: Pos, place: u64)
+        ensures { self.new ≡ settled operator pos place self.old }
+    {
+        let end = self.place();
+        match operator {
+            BinaryOperator::Or => self.patch(place, Instr::KeepIf(end), pos),
+            BinaryOperator::And => self.patch(place, Instr::KeepIfNot(end), pos),
+            BinaryOperator::Less
+            | BinaryOperator::Greater
+            | BinaryOperator::LessEqual
+            | BinaryOperator::GreaterEqual
+            | BinaryOperator::NotEqual
+            | BinaryOperator::Equal
+            | BinaryOperator::BitOr
+            | BinaryOperator::BitXor
+            | BinaryOperator::BitAnd
+            | BinaryOperator::ShiftLeft
+            | BinaryOperator::ShiftRight
+            | BinaryOperator::Concat
+            | BinaryOperator::Add
+            | BinaryOperator::Subtract
+            | BinaryOperator::Multiply
+            | BinaryOperator::Divide
+            | BinaryOperator::Modulo => {}
         }
     }
 

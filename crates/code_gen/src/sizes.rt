@@ -103,7 +103,7 @@ pub fn all_size(all: &[Expr]) -> Result<u64, NoMemory>
 
 /// How many instructions the clauses of an `if` become.
 #[cycle(sizes_of_blocks)]
-pub fn clauses_size(all: &[Clause]) -> Result<u64, NoMemory>
+fn clauses_size(all: &[Clause]) -> Result<u64, NoMemory>
     ensures { IfOk result (λ n. n ≡ clauses_size_of (clauses_of all.now)) }
 {
     let mut total = 0;

@@ -5,12 +5,12 @@ ghost use Rattle.lua_tree.specs.View.{step_from, else_from};
 ghost use Rattle.lua_meaning.specs.Trees.{first_place as first_place_of};
 ghost use Rattle.lua_code.specs.Generated.{stores as stores_of, iterate_code, step_place};
 ghost use Rattle.lua_meaning.specs.Locals.{exp_locals as exp_locals_of};
-ghost use Rattle.lua_code.specs.Sizes.{block_size as block_size_of, exp_size as exp_size_of, clauses_size as clauses_size_of, else_size};
-ghost use Rattle.code_gen.specs.Work.{is_loop, skip, put_all, put as put_one, free_from, with_scoped, with_block, with_step, with_else, with_stat, with_clauses, with_count_begun, with_each_begun};
+ghost use Rattle.lua_code.specs.Sizes.{block_size as block_size_of, exp_size as exp_size_of};
+ghost use Rattle.code_gen.specs.Work.{is_loop, skip, put_all, put as put_one, free_from, with_scoped, with_block, with_step, with_else, with_stat, with_clauses, with_count_begun, with_each_begun, all_patched, last_jumps};
 ghost use Rattle.lua_code.specs.declared.code.Instr.TheVariants as instr;
 
 use crate::locals::{exp_locals, targets_locals};
-use crate::sizes::{block_size, clauses_size, exp_size};
+use crate::sizes::{block_size, exp_size};
 use crate::sums::sum;
 use crate::writer::Writer;
 use lua_code::Instr;
@@ -130,17 +130,13 @@ impl<'a> Writer<'a> {
         Ok(test)
     }
 
-    /// The clauses and the last block of an `if` begin. Gives the place behind it.
-    fn end_of_if(&self, clauses: &[Clause], otherwise: &Option<Block>) -> Result<u64, NoMemory>
-        ensures { IfOk result (λ n. n ≡ length self.now.code + clauses_size_of (clauses_of clauses.now) + else_size (else_from (option_map block_of otherwise.now))) }
+    /// Jumps at some places lead to where the writing stands.
+    fn settle_jumps(&mut self, places: &[u64], pos: Pos)
+        ensures { self.new ≡ all_patched places.now (instr.Jump (length self.old.code)) pos self.old }
     {
-        let before = sum(self.place(), clauses_size(clauses)?)?;
-        match otherwise {
-            Some(block) => {
-                let end = sum(before, block_size(block)?)?;
-                Ok(end)
-            }
-            None => Ok(before),
+        let end = self.place();
+        for place in places {
+            self.patch(*place, Instr::Jump(end), pos);
         }
     }
 
@@ -229,20 +225,25 @@ impl<'a> Writer<'a> {
         }
     }
 
-    /// The clauses of an `if`, which ends at the end.
+    /// The clauses of an `if`. Gives the places of their last jumps, which lead nowhere yet.
     #[cycle(writing)]
-    fn clauses(&mut self, all: &[Clause], pos: Pos, end: u64, exit: u64) -> Result<(), NoMemory>
-        ensures { OnOk result (self.new ≡ with_clauses (clauses_of all.now) pos end exit self.old) }
+    fn clauses(&mut self, all: &[Clause], pos: Pos, exit: u64) -> Result<Vec<u64>, NoMemory>
+        ensures code { OnOk result (self.new ≡ with_clauses (clauses_of all.now) pos 0 exit self.old) }
+        ensures jumps { IfOk result (λ jumps. jumps.items ≡ last_jumps (clauses_of all.now) (length self.old.code)) }
     {
+        let mut jumps = Vec::new(self.alloc);
         for clause in all {
             self.exp(&clause.condition)?;
-            let inner = sum(self.place(), 1)?;
-            let next = sum(sum(inner, block_size(&clause.block)?)?, 1)?;
-            self.put(Instr::JumpIfNot(next), pos)?;
+            let test = self.place();
+            self.put(Instr::JumpIfNot(0), pos)?;
             self.scoped(&clause.block, exit)?;
-            self.put(Instr::Jump(end), pos)?;
+            let last = self.place();
+            jumps.push(last)?;
+            self.put(Instr::Jump(0), pos)?;
+            let next = self.place();
+            self.patch(test, Instr::JumpIfNot(next), pos);
         }
-        Ok(())
+        Ok(jumps)
     }
 
     /// A statement. `break` goes to the exit.
@@ -275,9 +276,9 @@ impl<'a> Writer<'a> {
                 Ok(())
             }
             Stat::If(pos, clauses, otherwise) => {
-                let end = self.end_of_if(clauses.as_slice(), otherwise)?;
-                self.clauses(clauses.as_slice(), *pos, end, exit)?;
+                let jumps = self.clauses(clauses.as_slice(), *pos, exit)?;
                 self.otherwise(otherwise, exit)?;
+                self.settle_jumps(jumps.as_slice(), *pos);
                 Ok(())
             }
             Stat::While(..) | Stat::Repeat(..) | Stat::NumericFor(..) | Stat::GenericFor(..) => {

@@ -1,15 +1,9 @@
-ghost use Rattle.std.specs.Prelude.{◌≡◌, ◌+◌, ◌++◌, length, OnOk, IfOk};
-ghost use Rattle.lua_tree.specs.View.{exp_of};
-ghost use Rattle.lua_code.specs.Generated.{new_cells, set_slots, begin_locals, module_scope, read_use, use_in, captures_in, inside};
-ghost use Rattle.lua_code.specs.Sizes.{exp_size as exp_size_of};
-ghost use Rattle.code_gen.specs.Work.{put as put_one, put_all, skip as skipped, free_from, next_from, declaring, leaving, names_in, with_count_begun, with_each_begun};
-ghost use Rattle.code_gen.specs.Pieces.{between as between_them, behind as behind_both};
+ghost use Rattle.std.specs.Prelude.{◌≡◌, length, OnOk, IfOk};
+ghost use Rattle.lua_code.specs.Generated.{read_use, use_in, captures_in, inside};
+ghost use Rattle.code_gen.specs.Work.{put as put_one, patched, skip as skipped, free_from, next_from, declaring, leaving};
 
 use crate::scope::Scope;
-use crate::sizes::exp_size;
-use crate::sums::sum;
 use lua_code::{Capture, Instr, Proto};
-use lua_tree::{BinaryOperator, Expr, Scoped};
 use std::alloc::Global;
 use std::marker::Model;
 use tl_base::{Bytes, List, NoMemory, Pos};
@@ -99,6 +93,18 @@ impl<'a> Writer<'a> {
     {
         self.code.push((instr, pos))?;
         Ok(())
+    }
+
+    /// The instruction at a place becomes this one, at this position. Nothing changes past the end.
+    #[tactic(auto, unfolding(crate::specs::Work::patched))]
+    pub fn patch(&mut self, at: u64, instr: Instr, pos: Pos)
+        ensures { self.new ≡ patched at instr pos self.old }
+    {
+        let mut code = std::mem::replace(&mut self.code, List::new(self.alloc)).into_vec();
+        if at < code.len() as u64 {
+            code[at as usize] = (instr, pos);
+        }
+        self.code = List::from_vec(code);
     }
 
     /// A text that declares so many locals is passed.

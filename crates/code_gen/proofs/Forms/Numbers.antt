@@ -41,7 +41,7 @@ same_between binary.Multiply p slot at a b = refl
 same_between binary.Divide p slot at a b = refl
 same_between binary.Modulo p slot at a b = refl
 
-exp_place : (e : Exp) (w : Work) → length (with_exp e w).code ≡ length w.code + exp_size e
+pub exp_place : (e : Exp) (w : Work) → length (with_exp e w).code ≡ length w.code + exp_size e
 unfolding with_exp
 exp_place e w = simp (length-append, exp_length)
 

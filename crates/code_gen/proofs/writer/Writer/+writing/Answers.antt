@@ -1,6 +1,6 @@
-use Rattle.std.proofs.Common.{◌≡◌, sym, ap, ap₂, ◌∙◌, ◌+◌, ◌<◌, length, drop, length-drop, map, [], ◌∷◌, Some, true, false, arith}
+use Rattle.std.proofs.Common.{◌≡◌, sym, ap, ap₂, ◌∙◌, ◌+◌, ◌<◌, length, drop, length-drop, map, [], ◌∷◌, ◌++◌, append_assoc, Some, true, false, arith}
 use Rattle.std.specs.Option.{option_map, is_some}
-use Rattle.std.proofs.lemmas.List.{drop_all}
+use Rattle.std.proofs.lemmas.List.{append-nil, drop_all}
 use Rattle.lua_tree.specs.declared.syntax.Block.{out-Block}
 use Rattle.lua_tree.specs.declared.syntax.Body.{out-Body}
 use Rattle.lua_tree.specs.declared.syntax.Clause.{out-Clause}
@@ -11,14 +11,15 @@ use Rattle.lua_tree.specs.Places.{place_of}
 use Rattle.lua_meaning.specs.Trees.{first_place}
 use Rattle.lua_meaning.specs.Locals.{exp_locals, exps_locals, entries_locals, targets_locals}
 use Rattle.lua_code.specs.Generated.{field_instr, stores, iterate_code, captures_in, inside, begin_locals}
-use Rattle.lua_code.specs.Sizes.{function_inner, clauses_size, else_size, block_size, block_slots, exp_size, operator_slots}
+use Rattle.lua_code.specs.Sizes.{function_inner, block_size, block_slots, exp_size}
 use Rattle.lua_code.specs.declared.code.Instr.TheVariants as instr
-use Rattle.code_gen.specs.Pieces.{between, behind}
-use Rattle.code_gen.specs.Work.{Work, base, is_open, skip, put_all, put, free_from, next_from, declaring, leaving, with_exp, with_values, with_list, with_function, with_body, at_work, finished, with_scoped, with_block, with_step, with_else, with_clauses, with_count_begun, with_each_begun, with_bound}
+use Rattle.code_gen.specs.Pieces.{between, settled, behind}
+use Rattle.code_gen.specs.Work.{Work, base, is_open, skip, put_all, put, free_from, next_from, declaring, leaving, with_exp, with_values, with_list, with_function, with_body, at_work, finished, with_scoped, with_block, with_step, with_else, with_clauses, with_count_begun, with_each_begun, with_bound, patched, all_patched, last_jumps}
 use Rattle.code_gen.proofs.Forms.Expressions.{nothing_form, truth_form, integer_form, text_form, name_form, field_form, index_form, table_form, paren_form, function_form, unary_form, vararg_form, call_form, method_form, marked_form, list_none, no_step_form, step_form}
-use Rattle.code_gen.proofs.Forms.Statements.{scoped_form, finish_form, returns_form, next_form, empty_form, interface_form, alias_form, define_method_form, run_form, leave_form, scope_form, repeat_form, choose_form, no_clause_form, no_else_form, else_form, define_form, declare_function_form, declare_form}
+use Rattle.code_gen.proofs.Forms.Statements.{scoped_form, finish_form, returns_form, next_form, empty_form, interface_form, alias_form, define_method_form, run_form, leave_form, scope_form, repeat_form, no_clause_form, no_else_form, else_form, define_form, declare_function_form, declare_form}
 use Rattle.code_gen.proofs.Forms.Functions.{function_written, function_number}
-use Rattle.code_gen.proofs.Forms.Numbers.{binary_written, while_written, assign_written, clause_written, count_written, each_written, count_at, each_at}
+use Rattle.code_gen.proofs.Forms.Numbers.{while_written, assign_written, count_written, each_written, count_at, each_at}
+use Rattle.code_gen.proofs.Patches.{binary_at, binary_settled, clause_settled, clause_place, last_jump, choose_settled}
 use Rattle.code_gen.proofs.Values.{inner_written, last_written, open_written}
 use Rattle.code_gen.proofs.Lists.{targets_counted}
 use Rattle.code_gen.proofs.Seen.{body_seen, clause_seen, return_seen, item_seen, values_seen, stat_seen}
@@ -132,16 +133,18 @@ values-returns-in_ok-behind-in-Binary-clause-code t c =
     let b : tree.Exp = exp_of c.in-Binary.right in
     let slot = c.free-slot.ensures in
     let w1 = c.in_ok-exp-in-Binary.ensures ∙ ap (λ z. with_exp (exp_of z) w) c.get-in-Binary.ensures in
-    let w2 = c.in_ok-between-in-Binary.ensures ∙ ap₂ (λ z v. put_all (between o p c.free-slot.result (length v.code + exp_size (exp_of z) + 1)) v) c.get-in-Binary-2.ensures w1 in
+    let place = c.place-place.ensures ∙ ap (λ v. length v.code) w1 in
+    let w2 = c.in_ok-between-in-Binary.ensures ∙ ap (λ v. put_all (between o p c.free-slot.result 0) v) w1 in
     let n = c.in_ok-sum-in-Binary.ensures ∙ ap (λ k. c.free-slot.result + k) c.operator_slots.ensures in
     let w3 = c.set_free.ensures ∙ ap₂ (λ k v. free_from k v) n w2 in
-    let w4 = c.in_ok-exp-in-Binary-2.ensures ∙ ap₂ (λ z v. with_exp (exp_of z) v) c.get-in-Binary-3.ensures w3 in
-    let w5 = c.set_free-in-Binary.ensures ∙ ap (λ v. free_from c.free-slot.result v) w4 in
-    let w6 = c.in_ok-behind-in-Binary.ensures ∙ ap (λ v. put_all (behind o p c.free-slot.result) v) w5 in
+    let w4 = c.in_ok-exp-in-Binary-2.ensures ∙ ap₂ (λ z v. with_exp (exp_of z) v) c.get-in-Binary-2.ensures w3 in
+    let w5 = c.settle.ensures ∙ ap₂ (λ k v. settled o p k v) place w4 in
+    let w6 = c.set_free-in-Binary.ensures ∙ ap (λ v. free_from c.free-slot.result v) w5 in
+    let w7 = c.in_ok-behind-in-Binary.ensures ∙ ap (λ v. put_all (behind o p c.free-slot.result) v) w6 in
     values_seen (exp_of c.args.e.now) (tree.binary p o a b) w _ (ap exp_of c.in-Binary.is ∙ exp_of-Binary p o c.in-Binary.left c.in-Binary.right)
-    (w6
-    ∙ ap (λ s. put_all (behind o p s) (free_from s (with_exp b (free_from (s + operator_slots o) (put_all (between o p s (length (with_exp a w).code + exp_size b + 1)) (with_exp a w)))))) slot
-    ∙ binary_written p o a b w)
+    (w7
+    ∙ ap (λ s. binary_at w p o a b s) slot
+    ∙ binary_settled p o a b w)
 
 pub values-returns-in_ok-put-in-Mark-clause-code : goal.values-returns-in_ok-put-in-Mark-clause-code
 values-returns-in_ok-put-in-Mark-clause-code t c =
@@ -304,12 +307,19 @@ otherwise-returns-in-None t c =
     no_else_form c.args.exit c.args.self.now
     ∙ ap (λ b. with_else (else_from (option_map block_of b)) c.args.exit c.args.self.now) (sym c.in-None.is)
 
-pub clauses-returns : goal.clauses-returns
-clauses-returns t c =
+pub clauses-returns-clause-code : goal.clauses-returns-clause-code
+clauses-returns-clause-code t c =
     let e : drop c.loop-clause.clause-index c.args.all.now ≡ [] = drop_all c.loop-clause.clause-index c.args.all.now c.loop-clause-test.false in
-    no_clause_form c.args.pos c.args.end c.args.exit c.loop-clause.self
-    ∙ ap (λ l. with_clauses (clauses_of l) c.args.pos c.args.end c.args.exit c.loop-clause.self) (sym e)
-    ∙ c.loop-clause.invariant
+    no_clause_form c.args.pos 0 c.args.exit c.loop-clause.self
+    ∙ ap (λ l. with_clauses (clauses_of l) c.args.pos 0 c.args.exit c.loop-clause.self) (sym e)
+    ∙ c.loop-clause.invariant.0
+
+pub clauses-returns-clause-jumps : goal.clauses-returns-clause-jumps
+clauses-returns-clause-jumps t c =
+    let e : drop c.loop-clause.clause-index c.args.all.now ≡ [] = drop_all c.loop-clause.clause-index c.args.all.now c.loop-clause-test.false in
+    sym (append-nil c.loop-clause.jumps.items)
+    ∙ ap (λ l. c.loop-clause.jumps.items ++ last_jumps (clauses_of l) (length c.loop-clause.self.code)) (sym e)
+    ∙ c.loop-clause.invariant.1
 
 pub clauses-loop-clause-preserved : goal.clauses-loop-clause-preserved
 clauses-loop-clause-preserved t c =
@@ -321,16 +331,26 @@ clauses-loop-clause-preserved t c =
     let b : tree.Block = block_of (out-Clause x).block in
     let p = c.args.pos in
     let rest : tree.Clauses = clauses_of (drop (i + 1) xs) in
-    let inner = c.in_ok-inner.ensures ∙ ap (λ k. k + 1) (c.place.ensures ∙ ap (λ u. length u.code) c.in_ok-exp.ensures) in
-    let next = c.in_ok-next.ensures ∙ ap (λ k. k + 1) (c.in_ok-sum.ensures ∙ ap₂ (λ j k. j + k) inner c.in_ok-block_size.ensures) in
-    let w2 = c.in_ok-put.ensures ∙ ap₂ (λ k u. put (instr.JumpIfNot k) p u) next c.in_ok-exp.ensures in
+    let seen : clauses_of (drop i xs) ≡ tree.clause a b rest =
+    ap clauses_of (item_seen xs i x c.loop-clause-test.true c.clause-item.is) ∙ ap (λ z. tree.clause z.condition z.body rest) (clause_seen x) in
+    let w1 = c.in_ok-exp.ensures in
+    let test = c.place-test.ensures ∙ ap (λ u. length u.code) w1 in
+    let w2 = c.in_ok-put.ensures ∙ ap (λ u. put (instr.JumpIfNot 0) p u) w1 in
     let w3 = c.in_ok-scoped.ensures ∙ ap (λ u. with_scoped b c.args.exit u) w2 in
-    let w4 = c.in_ok-put-2.ensures ∙ ap (λ u. put (instr.Jump c.args.end) p u) w3 in
-    ap (λ u. with_clauses rest p c.args.end c.args.exit u) w4
-    ∙ clause_written a b rest p c.args.end c.args.exit v
-    ∙ ap (λ z. with_clauses (tree.clause z.condition z.body rest) p c.args.end c.args.exit v) (sym (clause_seen x))
-    ∙ ap (λ l. with_clauses (clauses_of l) p c.args.end c.args.exit v) (sym (item_seen xs i x c.loop-clause-test.true c.clause-item.is))
-    ∙ c.loop-clause.invariant
+    let last = c.place-last.ensures ∙ ap (λ u. length u.code) w3 ∙ last_jump a p b c.args.exit v in
+    let w4 = c.in_ok-put-2.ensures ∙ ap (λ u. put (instr.Jump 0) p u) w3 in
+    let w5 = c.patch.ensures ∙ ap₂ (λ k j. patched k (instr.JumpIfNot j) p c.put-in-loop-clause.new.self) test c.place-next.ensures ∙ ap (λ u. patched (length (with_exp a v).code) (instr.JumpIfNot (length u.code)) p u) w4 in
+    let long = ap (λ u. length u.code) w5 ∙ clause_place a p b c.args.exit v in (
+      ap (λ u. with_clauses rest p 0 c.args.exit u) w5
+          ∙ clause_settled a b rest p c.args.exit v
+          ∙ ap (λ z. with_clauses z p 0 c.args.exit v) (sym seen)
+          ∙ c.loop-clause.invariant.0,
+      ap₂ (λ l n. l ++ last_jumps rest n) c.in_ok-push.ensures.items long
+          ∙ append_assoc c.loop-clause.jumps.items (c.place-last.result ∷ []) (last_jumps rest (length v.code + exp_size a + 1 + block_size b + 1))
+          ∙ ap (λ n. c.loop-clause.jumps.items ++ (n ∷ last_jumps rest (length v.code + exp_size a + 1 + block_size b + 1))) last
+          ∙ ap (λ z. c.loop-clause.jumps.items ++ last_jumps z (length v.code)) (sym seen)
+          ∙ c.loop-clause.invariant.1,
+    )
 
 -- ---- the step of a loop
 
@@ -399,12 +419,13 @@ pub stat-returns-in_ok-otherwise-in-If : goal.stat-returns-in_ok-otherwise-in-If
 stat-returns-in_ok-otherwise-in-If t c =
     let w : Work = c.args.self.now in
     let p = c.in-If.pos in
+    let cs : tree.Clauses = clauses_of c.in-If.clauses in
     let b : tree.Else = else_from (option_map block_of c.in-If.otherwise) in
-    let end = c.in_ok-end-in-If.ensures ∙ ap (λ l. length w.code + clauses_size (clauses_of l) + else_size b) c.as_slice-in-If.ensures in
-    let w1 = c.in_ok-clauses-in-If.ensures ∙ ap₂ (λ l n. with_clauses (clauses_of l) p n c.args.exit w) c.as_slice-in-If-2.ensures end in
+    let w1 = c.in_ok-jumps-in-If.ensures.code ∙ ap (λ l. with_clauses (clauses_of l) p 0 c.args.exit w) c.as_slice-in-If.ensures in
     let w2 = c.in_ok-otherwise-in-If.ensures ∙ ap (λ v. with_else b c.args.exit v) w1 in
-    stat_seen (stat_of c.args.stat.now) (tree.choose p (clauses_of c.in-If.clauses) b) c.args.exit w _ (ap stat_of c.in-If.is ∙ stat_of-If p c.in-If.clauses c.in-If.otherwise)
-    (w2 ∙ choose_form p (clauses_of c.in-If.clauses) b c.args.exit w)
+    let jumps = c.as_slice-in-If-2.ensures.value ∙ c.in_ok-jumps-in-If.ensures.jumps ∙ ap (λ l. last_jumps (clauses_of l) (length w.code)) c.as_slice-in-If.ensures in
+    stat_seen (stat_of c.args.stat.now) (tree.choose p cs b) c.args.exit w _ (ap stat_of c.in-If.is ∙ stat_of-If p c.in-If.clauses c.in-If.otherwise)
+    (c.settle_jumps.ensures ∙ ap₂ (λ l v. all_patched l (instr.Jump (length v.code)) p v) jumps w2 ∙ choose_settled p cs b c.args.exit w)
 
 pub stat-returns-in_ok-put-in-Function : goal.stat-returns-in_ok-put-in-Function
 stat-returns-in_ok-put-in-Function t c =
