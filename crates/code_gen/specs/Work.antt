@@ -111,7 +111,6 @@ with_list es p n w = grown (list_code es p n w.scope (base w) (length w.code)) (
 unfoldable pub with_step : Step → Pos → Work → Work
 with_step c p w = grown (step_code c p w.scope (base w) (length w.code)) (step_protos c w.scope (base w)) (past (step_locals c) w.scope) w
 
--- the function itself, behind those inside it; no code of the function at work
 -- a bound of a numeric `for`, which has to be an integer, goes into a slot
 abbrev pub with_bound : Exp → ℕ → Pos → Work → Work
 with_bound e slot p w = free_from (slot + 1) (put (instr.SetSlot slot) p (put instr.Bound (place_of e) (with_exp e w)))
@@ -141,6 +140,7 @@ with_each_begun slot n x test p w =
     (put (instr.SetSlot (slot + 2)) p
     (put (instr.Spread 3) p w)))))))))
 
+-- the function itself, behind those inside it; no code of the function at work
 unfoldable pub with_function : Function → Pos → Work → Work
 with_function f p w = grown [] (function_protos f p w.scope (base w)) (past (function_locals f) w.scope) w
 

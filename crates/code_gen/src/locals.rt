@@ -37,6 +37,7 @@ pub fn exp_locals(e: &Expr) -> Result<u64, NoMemory>
     }
 }
 
+/// How many locals the text of some expressions declares.
 #[cycle(locals)]
 pub fn all_locals(all: &[Expr]) -> Result<u64, NoMemory>
     ensures { IfOk result (λ n. n ≡ exps_locals (exps_of all.now)) }

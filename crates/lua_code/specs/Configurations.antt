@@ -1,4 +1,5 @@
--- What a run of stack code is at before each of its steps.
+-- What a run of stack code is at before each of its steps: functions at work, and what waits for the results of their calls
+-- (Lua 5.3 manual, 3.4.10 and 3.4.11).
 -- The world is that of the meaning of trees; a closure is a function's number with the cells that it captured.
 use Rattle.std.specs.Prelude.{ℕ, ◌+◌, List, [], ◌∷◌}
 use Rattle.tl_base.specs.declared.place.Pos.{Pos}

@@ -1,5 +1,5 @@
 -- When code is faithful to modules: its run gives, with the modules' kinds and for every list of file words, every input and every number of turns,
--- the meaning of the program they make, in some number of steps.
+-- the meaning of the program they make, in some number of steps. Each module is a chunk (Lua 5.3 manual, 3.3.2).
 use Rattle.std.specs.Prelude.{◌≡◌, ℕ, List, map, Some}
 use Rattle.lua_meaning.specs.Programs.{Module, meaning}
 use Rattle.lua_code.specs.declared.code.Code.{Code}

@@ -1,4 +1,4 @@
--- The code of a program, as a function of its modules. Every local and every parameter is a cell.
+-- The code of a program, as a function of its modules (Lua 5.3 manual, 3.3 to 3.5). Every local and every parameter is a cell.
 -- A loop has its condition at the bottom, so that each jump back goes to a `Turn`.
 use Rattle.std.specs.Prelude.{ℕ, zero, suc, ◌+◌, nat_eq, pos, Bool, true, false, List, [], ◌∷◌, ◌++◌, length, map, cond, slice_get, Option, Some, None}
 use Rattle.std.specs.Option.{is_some}
@@ -33,7 +33,7 @@ Placed = List (Instr × Pos)
 abbrev pub one : Instr → Pos → Placed
 one i p = (i, p) ∷ []
 
--- ---- where locals are
+-- ---- where locals are (3.5)
 
 -- the function's own locals in scope with their slots, and the captured ones, the innermost first; the first free slot;
 -- and how many locals the module's text declares before this place
@@ -135,7 +135,7 @@ new_cells s (suc n) p = (instr.NewCell s, p) ∷ new_cells (s + 1) n p
 abbrev pub begin_locals : ℕ → ℕ → Pos → Placed
 begin_locals s n p = set_slots s n p ++ new_cells s n p
 
--- ---- closures: each captures all locals in scope
+-- ---- closures (3.4.11): each captures all locals in scope
 
 abbrev pub outer_from : ℕ → List ℕ → List Capture
 outer_from i [] = []
@@ -151,7 +151,7 @@ inner_captured sc = keys_of sc.own ++ sc.captured
 abbrev pub inside : ℕ → Scope → Scope
 inside params sc = record (declared params (record sc { own = []; captured = inner_captured sc; free = 0 })) { next = sc.next + params }
 
--- ---- operators
+-- ---- operators (3.4.1 to 3.4.7)
 
 abbrev pub unary_instr : UnaryOperator → Instr
 unary_instr unary.Not = instr.Not
@@ -188,7 +188,7 @@ truth_instr false = instr.False
 abbrev pub mark_at : CrossKind → Pos → Placed
 mark_at k p = one (instr.Mark k p.line p.column) p
 
--- ---- expressions: their code at a place, where functions inside are numbered from base on
+-- ---- expressions (3.4): their code at a place, where functions inside are numbered from base on
 
 abbrev mutual
   pub exp_code : Exp → Scope → ℕ → ℕ → Placed
@@ -238,7 +238,7 @@ iterate_code s turn p q =
     ∷ (instr.Dup, p) ∷ (instr.First, p) ∷ (instr.Dup, p) ∷ (instr.SetSlot (s + 2), p) ∷ (instr.Nil, p) ∷ (instr.Eq, p) ∷ (instr.JumpIfNot turn, p)
     ∷ one instr.Pop p
 
--- ---- statements: `break` goes to the place brk
+-- ---- statements (3.3): `break` goes to the place brk
 
 abbrev mutual
   pub stat_code : Stat → Scope → ℕ → ℕ → ℕ → Placed
@@ -311,7 +311,7 @@ abbrev mutual
   block_code (tree.next s b) sc base at brk =
       stat_code s sc base at brk ++ block_code b (behind_stat s sc) (base + stat_functions s) (at + stat_size s) brk
 
--- ---- functions
+-- ---- functions (3.4.11)
 
 -- the parameters become cells, and where the body ends without `return`, nothing is given; a stray `break` goes there
 abbrev pub body_code : ℕ → Block → Pos → Scope → ℕ → Placed
@@ -400,7 +400,7 @@ abbrev mutual
   block_protos (tree.returns p es) sc base = exps_protos es sc base
   block_protos (tree.next s b) sc base = stat_protos s sc base ++ block_protos b (behind_stat s sc) (base + stat_functions s)
 
--- ---- programs
+-- ---- programs (3.3.2)
 
 abbrev pub module_scope : Names → Scope
 module_scope names = record { names = names; own = []; captured = []; free = 0; next = 0 }

@@ -1,5 +1,5 @@
--- What each instruction does to the function at work. An instruction that lacks its operands is stuck.
--- Those on tables, methods and modules are still to come, and are stuck until then.
+-- What each instruction does to the function at work (Lua 5.3 manual, 3.3 and 3.4, for the forms that it is part of).
+-- An instruction that lacks its operands is stuck. Those on tables, methods and modules are still to come, and are stuck until then.
 use Rattle.std.specs.Prelude.{ℕ, zero, suc, ◌+◌, ℤ, pos, ◌+ℤ◌, Bool, true, false, not, List, [], ◌∷◌, ◌++◌, length, slice_get, slice_set, Option, Some, None, codes}
 use Rattle.tl_base.specs.declared.place.Pos.{Pos}
 use Rattle.tl_base.specs.declared.crossing.CrossKind.{CrossKind}
@@ -137,7 +137,7 @@ write c v p f levels w ks = on p f levels (write_cell (Some c) v w) ks
 abbrev pub new_cell : ℕ → Value → Row
 new_cell i v p f levels w ks = set_slot i (slot.Cell (length w.cells)) p f levels (with_cell v w) ks
 
--- ---- closures
+-- ---- closures (3.4.11)
 
 -- what follows gets the cells that a closure captures here
 abbrev pub capture_all : List Capture → (List ℕ → Row) → Row
@@ -153,7 +153,7 @@ abbrev pub close : ℕ → Option Proto → Row
 close number None = stuck_here
 close number (Some proto) = capture_all proto.captures (λ cells. new_closure number cells)
 
--- ---- operators, which fail at the instruction's place
+-- ---- operators (3.4.1 to 3.4.7), which fail at the instruction's place
 
 abbrev pub answered : Answer → Row
 answered (value_is v) = push_value v
@@ -166,7 +166,7 @@ two o = pop_value (λ y. pop_value (λ x. answered (operate o x y)))
 abbrev pub one : UnaryOperator → Row
 one o = pop_value (λ x. answered (operate_on o x))
 
--- ---- jumps
+-- ---- jumps (3.3.4 and 3.4.5)
 
 abbrev pub jump_where : Bool → ℕ → Row
 jump_where true to = jump to
@@ -180,7 +180,7 @@ abbrev pub keep_where : Bool → ℕ → Value → Row
 keep_where true to v = keep to v
 keep_where false to v = on
 
--- ---- the numeric `for`
+-- ---- the numeric `for` (3.3.5)
 
 abbrev pub wrong_bound : Value → Row
 wrong_bound v = kind_error (codes "'for' bound is a " ++ kind_name v)

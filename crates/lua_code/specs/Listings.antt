@@ -1,4 +1,5 @@
--- How code is written: a line for each function, and a line for each of its instructions behind it.
+-- How code is written: a line for each function, and a line for each of its instructions behind it. Strings hold any bytes
+-- (Lua 5.3 manual, 2.1), so they are written in hexadecimal.
 use Rattle.std.specs.Prelude.{ℕ, ◌+◌, ◌/◌, ◌%◌, Bool, true, false, List, [], ◌∷◌, ◌++◌, length, flat_map, decimal, slice_get, Option, option_and_then, codes}
 use Rattle.std.specs.Fmt.{signed_decimal}
 use Rattle.std.specs.Char.{digit_char}

@@ -1,4 +1,4 @@
--- When code is well formed: each instruction has a shape, which says what stands on the stack and in the slots before it, and all steps agree
+-- When code is well formed, where it is that of statements and expressions (Lua 5.3 manual, 3.3 and 3.4): each instruction has a shape, which says what stands on the stack and in the slots before it, and all steps agree
 -- with the shapes. Instructions on tables, methods and modules are still to come, and no code with them is well formed until then.
 use Rattle.std.specs.Prelude.{◌≡◌, ℕ, ◌+◌, ◌<◌, ◌≤◌, List, [], ◌∷◌, ◌++◌, length, replicate, slice_get, slice_set, Option, Some, None}
 use Rattle.lua_code.specs.declared.code.Capture.{Capture}

@@ -1,4 +1,4 @@
--- How much code the forms of the language become: how many instructions, how many functions, and how many slots.
+-- How much code the forms of the language (Lua 5.3 manual, 3.3 and 3.4) become: how many instructions, how many functions, and how many slots.
 use Rattle.std.specs.Prelude.{ℕ, ◌+◌, max, length}
 use Rattle.lua_tree.specs.declared.syntax.BinaryOperator.{BinaryOperator}
 use Rattle.lua_tree.specs.declared.syntax.BinaryOperator.TheVariants as binary

@@ -1,4 +1,4 @@
--- The steps of stack code, and its run by repeated steps.
+-- The steps of stack code, and its run by repeated steps: calls and their results (Lua 5.3 manual, 3.4.10), and errors (2.3).
 use Rattle.std.specs.Prelude.{ℕ, zero, suc, ◌-◌, List, [], ◌∷◌, ◌++◌, map, drop, replicate, slice_get, Bool, true, false, Option, Some, None, codes}
 use Rattle.tl_base.specs.declared.place.Pos.{Pos}
 use Rattle.tl_base.specs.declared.place.ModuleKind.{ModuleKind}

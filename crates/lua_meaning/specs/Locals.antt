@@ -1,4 +1,5 @@
--- How many locals the text of a tree declares: its `local` statements, the variables of its loops, and the parameters of its functions.
+-- How many locals the text of a tree declares (Lua 5.3 manual): its `local` statements (3.3.7), the variables of its loops (3.3.5), and the parameters
+-- of its functions (3.4.11).
 use Rattle.std.specs.Prelude.{ℕ, ◌+◌, length}
 use Rattle.lua_tree.specs.Tree as tree
 use Rattle.lua_tree.specs.Tree.{Exp, Multi, Exps, Entries, Function, Stat, Targets, Clauses, Else, Step, Block}

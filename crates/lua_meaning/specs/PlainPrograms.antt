@@ -1,4 +1,5 @@
--- The plain program, without marks and annotations, and what its run has in common with that of the marked one.
+-- The plain program, without marks and annotations, whose chunks are as the manual has them (Lua 5.3 manual, 3.3.2), and what its run has in common
+-- with that of the marked one.
 use Rattle.std.specs.Prelude.{◌≡◌}
 use Rattle.lua_tree.specs.Plain.{plain_block}
 use Rattle.lua_meaning.specs.Programs.{Module, Result}

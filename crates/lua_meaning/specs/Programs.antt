@@ -1,4 +1,4 @@
--- The meaning of a program: of its modules, their file words, the input and a number of turns.
+-- The meaning of a program: of its modules, each a chunk (Lua 5.3 manual, 3.3.2), their file words, the input and a number of turns.
 use Rattle.std.specs.Prelude.{ℕ, ◌-◌, List, [], ◌∷◌, map, Option, None}
 use Rattle.tl_base.specs.declared.place.ModuleKind.{ModuleKind}
 use Rattle.tl_base.specs.declared.crossing.Crossing.{Crossing}

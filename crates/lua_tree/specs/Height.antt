@@ -1,4 +1,4 @@
--- The height of an expression: 1 where no expression stands in it, and for a function whatever stands in its body; else one more than the
+-- The height of an expression (Lua 5.3 manual, section 3.4): 1 where no expression stands in it, and for a function whatever stands in its body; else one more than the
 -- highest that stands directly in it. Parentheses and marks count.
 use Rattle.std.specs.Prelude.{ℕ, ◌+◌, max}
 use Rattle.lua_tree.specs.Tree as tree

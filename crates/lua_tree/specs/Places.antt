@@ -1,4 +1,4 @@
--- The place of an expression: that of its first token.
+-- The place of an expression (Lua 5.3 manual, section 3.4): that of its first token.
 use Rattle.tl_base.specs.declared.place.Pos.{Pos}
 use Rattle.lua_tree.specs.Tree as tree
 use Rattle.lua_tree.specs.Tree.{Exp, Multi}

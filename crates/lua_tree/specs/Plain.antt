@@ -1,4 +1,4 @@
--- The plain tree of a module: the same without annotations, type statements and marks, every place kept.
+-- The plain tree of a module, which is one of the manual's (Lua 5.3 manual, section 9): the same without annotations, type statements and marks, every place kept.
 use Rattle.std.specs.Prelude.{map, None}
 use Rattle.std.specs.Option.{option_map}
 use Rattle.lua_tree.specs.declared.annotation.Typed.{Typed}

@@ -1,5 +1,5 @@
--- The trees over which typing, erasure and meaning are defined: one family, with a kind of list for each place where trees stand in a row.
--- An expression that can give any number of values, a call or `...`, is a form of its own. Where one value is wanted, its first is taken.
+-- The trees over which typing, erasure and meaning are defined (Lua 5.3 manual, section 9, for the forms): one family, with a kind of list for each place where trees stand in a row.
+-- An expression that can give any number of values, a call or `...`, is a form of its own. Where one value is wanted, its first is taken (3.4).
 use Rattle.std.specs.Prelude.{ℕ, ℤ, Bool, List, Option}
 use Rattle.tl_base.specs.declared.place.Pos.{Pos}
 use Rattle.tl_base.specs.declared.crossing.CrossKind.{CrossKind}

@@ -1,4 +1,4 @@
--- The map from the trees of the code to those of the definitions.
+-- The map from the trees of the code to those of the definitions (Lua 5.3 manual, section 9, for the forms).
 use Rattle.std.specs.Prelude.{List, [], ◌∷◌, Option, Some, None, map}
 use Rattle.tl_base.specs.declared.place.Pos.{Pos}
 use Rattle.tl_base.specs.declared.crossing.CrossKind.{CrossKind}

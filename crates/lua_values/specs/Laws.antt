@@ -1,4 +1,4 @@
--- The words of the laws of integers and tables.
+-- The words of the laws of integers (Lua 5.3 manual, section 3.4.1) and tables (section 2.1).
 use Rattle.std.specs.Prelude.{◌≡◌, ℕ, ◌*◌, ◌^◌, ℤ, pos, ◌+ℤ◌, Option, None, IsSome}
 use Rattle.std.specs.List.{AllByRecursion}
 use Rattle.lua_values.specs.Tables.{Entries, listed_at}

@@ -1,4 +1,4 @@
--- That two values are the same exactly where they are equal, and that equal keys are hashed alike.
+-- That two values are the same (Lua 5.3 manual, section 3.4.4) exactly where they are equal, and that equal keys are hashed alike.
 use Rattle.std.specs.Prelude.{◌≡◌, true}
 use Rattle.std.specs.Cmp.{IsEquivalence, IsPartialEquivalence, partial_equiv_from_equiv, decided, booleans_Decides, signed_Decides, unsigned_Decides}
 use Rattle.std.specs.Cmp.Lexicographic.{pointwise_decides}

@@ -1,4 +1,4 @@
--- What a table's hash reads of a text, and that equal texts are read alike.
+-- What a table's hash reads of a text, a string as bytes (Lua 5.3 manual, section 2.1), and that equal texts are read alike.
 use Rattle.std.specs.Prelude.{◌≡◌, ℕ, List, [], ◌∷◌, true, nat_eq}
 use Rattle.std.specs.Cmp.{unsigned_Decides}
 use Rattle.std.specs.Cmp.Lexicographic.{pointwise, pointwise_decides}
