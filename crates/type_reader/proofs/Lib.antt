@@ -13,3 +13,4 @@ pub mod Straight
 pub mod Limits
 pub mod Gathered
 pub mod Standing
+pub mod UnionSizes

@@ -76,7 +76,7 @@ module _ (p : Ty → Bool) where
       first_out p t (filter (other t) (distinct ts)) i ∙ filter_weaker p (other t) (λ u j. ap p (sym (left_out t u j)) ∙ i) (distinct ts) ∙ e
       ∙ sym (ap distinct (first_out p t ts i))
 
-  filter_once : (ts : List Ty) → filter p (distinct ts) ≡ distinct (filter p ts)
+  pub filter_once : (ts : List Ty) → filter p (distinct ts) ≡ distinct (filter p ts)
   filter_once [] = refl
   filter_once (t ∷ ts) = once_one t ts (filter_once ts) (cases (p t))
 
@@ -284,6 +284,7 @@ counted_one kept t nodes more new before (inr gone) here =
 pub counted_more : (kept : List Ty) (t : Ty) (nodes more : ℕ) → IsCounted kept nodes → members t ≡ t ∷ [] → list_any (same_type t) kept ≡ false → more ≤ nodes + cond (lasts t) (type_size t) 0 → IsCounted (kept ++ t ∷ []) more
 counted_more kept t nodes more before single new here = record {
   flat = flat_push kept t before.flat single;
+  once = once_new kept t new ∙ ap (λ r. r ++ t ∷ []) before.once;
   counted = counted_one kept t nodes more new before.counted (cases (lasts t)) here;
 }
 

@@ -42,6 +42,10 @@ abbrev pub GathersMembers : Option (List Ty) → Option (List Ty) → Type 0
 GathersMembers written None = written ≡ None
 GathersMembers written (Some kept) = (all : List Ty) × (written ≡ Some all) × StandFor kept all
 
+-- those that are left where these base types cover their literals
+abbrev pub uncovered : Bool → Bool → List Ty → List Ty
+uncovered with_int with_str ts = filter (λ t. not (is_covered_form with_int with_str (out-Ty t))) ts
+
 -- a type that no other one covers in a union, as a base type covers its literals
 abbrev pub lasts : Ty → Bool
 lasts t = not (is_covered_form true true (out-Ty t))
@@ -49,7 +53,8 @@ lasts t = not (is_covered_form true true (out-Ty t))
 abbrev pub nodes_that_last : List Ty → ℕ
 nodes_that_last ts = sum_by type_size (distinct (filter lasts ts))
 
--- the members kept are no unions, and the nodes that were counted are among those that last
+-- the members kept are no unions, each stands there once, and the nodes that were counted are among those that last
 pub record IsCounted (kept : List Ty) (nodes : ℕ) : Type 0 where
   pub flat : flat_map members kept ≡ kept
+  pub once : distinct kept ≡ kept
   pub counted : nodes ≤ nodes_that_last kept

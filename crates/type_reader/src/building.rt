@@ -1,16 +1,16 @@
-ghost use Rattle.std.specs.Prelude.{◌≡◌, ◌+◌, map, Some, None, option_map, IfOk};
+ghost use Rattle.std.specs.Prelude.{◌≡◌, ◌+◌, map, Some, None, option_map, IfOk, IfSome};
 ghost use Rattle.std.specs.Option.{option_and_then};
 ghost use Rattle.tl_types.specs.declared.types.Ty.TheVariants as t;
 ghost use Rattle.tl_types.specs.Parts.{size_tuple};
 ghost use Rattle.tl_types.specs.Sizes.{is_within, type_size};
 ghost use Rattle.tl_types.specs.Unions.{or_nil, union_form};
-ghost use Rattle.type_reader.specs.Gathered.{Gathers, GathersMembers, nodes_of_types, nodes_of_fields, nodes_of_tuples, nodes_of_results, room_for};
+ghost use Rattle.type_reader.specs.Gathered.{Gathers, GathersMembers, IsCounted, nodes_of_types, nodes_of_fields, nodes_of_tuples, nodes_of_results, room_for};
 ghost use Rattle.type_reader.specs.Types.{limited as limited_to, both, every, func_type, tuple_type, tail_or, record_of as record_of_written, body_of as body_of_written};
 ghost use Rattle.type_reader.specs.Types.{type_of as type_of_written, field_of as field_of_written, fields_of as fields_of_written, results_of as results_of_written, tuple_of as tuple_of_written};
 ghost use Rattle.type_reader.specs.Lookups.{names_in};
 
 use crate::lookups::{BuiltIn, Found, Lookups};
-use crate::members::{Members, union_within};
+use crate::members::Members;
 use lua_tree::{TypeExpr, TypeField, TypeResults, TypeTuple};
 use std::alloc::Global;
 use tl_base::{Boxed, Bytes, List, NoMemory};
@@ -19,7 +19,7 @@ use tl_types::{Field, Func, Results, Text, Tuple, Ty, boolean, depth, size};
 /// How many nodes a type may have, and how deep it may be.
 pub const MOST_NODES: u64 = 65536;
 
-const GREATEST_DEPTH: u64 = 100;
+pub const GREATEST_DEPTH: u64 = 100;
 
 /// The type itself, where it keeps within both limits.
 fn limited(ty: Ty) -> Option<Ty>
@@ -36,9 +36,19 @@ fn optional_type(alloc: Global, ty: Option<Ty>) -> Result<Option<Ty>, NoMemory>
     ensures { IfOk result (λ r. r ≡ option_and_then (λ x. limited_to (or_nil x)) ty) }
 {
     match ty {
-        Some(ty) => union_within(alloc, &[ty, Ty::Nil]),
+        Some(ty) => with_nil(alloc, &ty),
         None => Ok(None),
     }
+}
+
+/// The union of a type with `nil`, where it keeps within both limits.
+fn with_nil(alloc: Global, ty: &Ty) -> Result<Option<Ty>, NoMemory>
+    ensures { IfOk result (λ r. r ≡ limited_to (or_nil ty.now)) }
+{
+    let mut members = Members::new(alloc);
+    members.add(alloc, ty)?;
+    members.add(alloc, &Ty::Nil)?;
+    Ok(members.union_type())
 }
 
 /// The number of nodes with those of one type more, where the components of a type may have so many.
@@ -196,7 +206,7 @@ fn union_of<'a>(
     ensures { IfOk result (λ r. r ≡ option_and_then (λ us. limited_to (union_form us)) (every (map (type_of_written (names_in names.entry)) types.now))) }
 {
     match members_of(alloc, names, types)? {
-        Some(members) => members.union_type(alloc),
+        Some(members) => Ok(members.union_type()),
         None => Ok(None),
     }
 }
@@ -207,7 +217,8 @@ fn members_of<'a>(
     names: Lookups<'_, 'a>,
     types: &'a [TypeExpr],
 ) -> Result<Option<Members>, NoMemory>
-    ensures { IfOk result (λ r. GathersMembers (every (map (type_of_written (names_in names.entry)) types.now)) (option_map (λ m. m.kept) r)) }
+    ensures gathered { IfOk result (λ r. GathersMembers (every (map (type_of_written (names_in names.entry)) types.now)) (option_map (λ m. m.kept) r)) }
+    ensures counted { IfOk result (λ r. IfSome r (λ m. IsCounted m.kept m.nodes)) }
 {
     let mut members = Members::new(alloc);
     for e in types {

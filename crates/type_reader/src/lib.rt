@@ -18,6 +18,7 @@ mod own_names;
 mod ranks;
 mod reading;
 mod typing;
+mod union_sizes;
 mod uses;
 
 pub use names::{TypeName, TypeNames};

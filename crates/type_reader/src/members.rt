@@ -1,16 +1,17 @@
-ghost use Rattle.std.specs.Prelude.{◌≡◌, [], ◌∷◌, ◌++◌, ◌||◌, ◌-◌, ◌^◌, cond, min, IfOk, OnOk};
+ghost use Rattle.std.specs.Prelude.{◌≡◌, [], ◌∷◌, ◌++◌, ◌||◌, ◌-◌, ◌^◌, ◌≤◌, cond, flat_map, min, OnOk};
 ghost use Rattle.std.specs.List.{list_any};
 ghost use Rattle.tl_types.specs.Same.{same_type};
 ghost use Rattle.tl_types.specs.Sizes.{type_size};
 ghost use Rattle.tl_types.specs.Types.{members};
-ghost use Rattle.tl_types.specs.Unions.{is_any, is_value, union_form};
-ghost use Rattle.type_reader.specs.Gathered.{IsCounted, StandFor, lasts};
+ghost use Rattle.tl_types.specs.Unions.{distinct, is_any, is_value, union_form, union_from};
+ghost use Rattle.type_reader.specs.Gathered.{IsCounted, StandFor, lasts, uncovered};
 ghost use Rattle.type_reader.specs.Types.{limited};
 
-use crate::building::MOST_NODES;
+use crate::building::{GREATEST_DEPTH, MOST_NODES};
+use crate::union_sizes::{Kinds, kinds_of, union_size};
 use std::alloc::Global;
 use tl_base::{List, NoMemory};
-use tl_types::{Ty, TyError, same, size, union_of};
+use tl_types::{Ty, depth, same, size};
 
 /// Members of a union, which stand for all that were added: each once, and where they have too many nodes no more of them than the union's type hangs on.
 #[derive(Drop)]
@@ -93,21 +94,66 @@ impl Members {
         self.add_alone(alloc, ty)
     }
 
-    /// The union's type, where it keeps within both limits.
-    pub fn union_type(self, alloc: Global) -> Result<Option<Ty>, NoMemory>
-        ensures { IfOk result (λ r. r ≡ limited (union_form self.kept)) }
+    /// The union's type, where it keeps within both limits. Nothing is formed of members that are too many.
+    pub fn union_type(self) -> Option<Ty>
+        requires counted { IsCounted self.kept self.nodes }
+        ensures { result ≡ limited (union_form self.kept) }
     {
-        union_within(alloc, self.kept.as_slice())
+        let nodes = union_size(self.kept.as_slice());
+        if nodes > MOST_NODES {
+            return None;
+        }
+        shallow(formed(self.kept))
     }
 }
 
-/// The union of types, where it keeps within both limits.
-pub fn union_within(alloc: Global, members: &[Ty]) -> Result<Option<Ty>, NoMemory>
-    ensures { IfOk result (λ r. r ≡ limited (union_form members.now)) }
+/// The members that are left beside their base types.
+fn left_beside(kinds: Kinds, kept: List<Ty>) -> List<Ty>
+    ensures { result ≡ uncovered kinds.int kinds.str kept }
 {
-    match union_of(alloc, members) {
-        Ok(ty) => Ok(Some(ty)),
-        Err(TyError::TooLarge) => Ok(None),
-        Err(TyError::NoMemory) => Err(NoMemory),
+    let mut left = kept.into_vec();
+    left.retain(|ty| !kinds.cover(ty));
+    List::from_vec(left)
+}
+
+/// One member alone is that type.
+fn from_members(kept: List<Ty>) -> Ty
+    ensures { result ≡ union_from kept }
+{
+    let mut members = kept.into_vec();
+    if members.len() == 1 {
+        if let Some(only) = members.pop() {
+            return only;
+        }
+    }
+    Ty::Union(List::from_vec(members))
+}
+
+/// The union of members, which it is made of without a copy.
+fn formed(kept: List<Ty>) -> Ty
+    requires flat { flat_map members kept ≡ kept }
+    requires once { distinct kept ≡ kept }
+    requires within { type_size (union_form kept) ≤ 65536 }
+    ensures { result ≡ union_form kept }
+{
+    let kinds = kinds_of(kept.as_slice());
+    if kinds.any {
+        return Ty::Any;
+    }
+    if kinds.value {
+        return Ty::Value;
+    }
+    from_members(left_beside(kinds, kept))
+}
+
+/// The type itself, where it isn't too deep.
+fn shallow(ty: Ty) -> Option<Ty>
+    requires within { type_size ty ≤ 65536 }
+    ensures { result ≡ limited ty }
+{
+    if depth(&ty) <= GREATEST_DEPTH {
+        Some(ty)
+    } else {
+        None
     }
 }

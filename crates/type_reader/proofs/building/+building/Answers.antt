@@ -100,7 +100,10 @@ tuples_of-loop-tuple-preserved t c =
 pub members_of-returns-in-None : goal.members_of-returns-in-None
 members_of-returns-in-None t c =
     let f = type_of (names_in c.args.names) in
-    every_stop f c.args.types.now c.loop-e.e-index c.e-item.result c.loop-e-test.true (ap f (sym c.e-item.is) ∙ sym c.in_ok-ty.ensures ∙ c.in-None.is)
+    record {
+      gathered = every_stop f c.args.types.now c.loop-e.e-index c.e-item.result c.loop-e-test.true (ap f (sym c.e-item.is) ∙ sym c.in_ok-ty.ensures ∙ c.in-None.is);
+      counted = tt;
+    }
 
 pub members_of-loop-e-preserved : goal.members_of-loop-e-preserved
 members_of-loop-e-preserved t c =
@@ -114,8 +117,8 @@ pub union_of-returns-in-Some : goal.union_of-returns-in-Some
 union_of-returns-in-Some t c =
     let w = every (map (type_of (names_in c.args.names)) c.args.types.now) in
     let kept = c.in-Some.members.kept in
-    let g : GathersMembers w (Some kept) = subst (λ (o : Option Members). GathersMembers w (option_map (λ (m : Members). m.kept) o)) c.in-Some.is c.in_ok-members.ensures in
-    subst (λ (x : Option Ty). IfOk c.union_type.result (λ r. r ≡ x)) (union_whole w kept g) c.union_type.ensures
+    let g : GathersMembers w (Some kept) = subst (λ (o : Option Members). GathersMembers w (option_map (λ (m : Members). m.kept) o)) c.in-Some.is c.in_ok-members.ensures.gathered in
+    c.union_type.ensures ∙ union_whole w kept g
 
 pub function_with-returns-in_ok-results-in-Some : goal.function_with-returns-in_ok-results-in-Some
 function_with-returns-in_ok-results-in-Some t c =
