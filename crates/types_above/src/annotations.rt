@@ -301,8 +301,8 @@ const GROWING: [(Chain, u32, &str); 4] = [
 ];
 
 const LONG: [(Chain, u32, &str); 2] = [
-    (Chain::Forwards, 3000, "3001"),
-    (Chain::Backwards, 3000, "3001"),
+    (Chain::Forwards, 10000, "10001"),
+    (Chain::Backwards, 10000, "10001"),
 ];
 
 fn chains_agree(
@@ -331,15 +331,39 @@ const UNIONS: [(&str, &str); 3] = [
     ("A15 | A14 | any", "17"),
 ];
 
-#[test]
-fn a_union_has_each_member_once(rt: HostRuntime) -> Result<(), Fail> {
-    let alloc = rt.alloc();
-    for (union, want) in UNIONS {
-        let mut text = chain_text(alloc, Chain::Doubled, 15)?;
+// `A14` has 32767 nodes: unions of just 65536 nodes, and of one more.
+const AT_LIMIT: [(&str, &str); 4] = [
+    ("A14 | {x: A14}", "16"),
+    ("A14 | {x: A14} | nil", "16:1 Y1"),
+    ("(A14 | {a: A13, b: A13})?", "16"),
+    ("(A14 | {x: A14})?", "16:1 Y1"),
+];
+
+// What is read of each union behind so many doublings.
+fn unions_agree(
+    rt: &impl Abort,
+    alloc: Global,
+    links: u32,
+    table: &[(&str, &str)],
+) -> Result<(), AllocError> {
+    for (union, want) in table {
+        let mut text = chain_text(alloc, Chain::Doubled, links)?;
         text.push_str(&format!(in alloc; "typealias B = {union}\n")?)?;
         let got = length(alloc, &text)?;
-        assert_eq!(rt; got.as_str(), want, "{union}");
+        assert_eq!(rt; got.as_str(), *want, "{union}");
     }
+    Ok(())
+}
+
+#[test]
+fn a_union_has_each_member_once(rt: HostRuntime) -> Result<(), Fail> {
+    unions_agree(&rt, rt.alloc(), 15, &UNIONS)?;
+    Ok(())
+}
+
+#[test]
+fn a_union_of_just_the_limit_is_read(rt: HostRuntime) -> Result<(), Fail> {
+    unions_agree(&rt, rt.alloc(), 14, &AT_LIMIT)?;
     Ok(())
 }
 
