@@ -78,14 +78,14 @@ module _ (kind : ModuleKind) where
 
 -- ---- whether a word would go on in a module of a kind, by where a run at that kind stops
 
-viable_front : {kind : ModuleKind} (front more : Words) → IsViable kind (front ++ more) → IsViable kind front
+pub viable_front : {kind : ModuleKind} (front more : Words) → IsViable kind (front ++ more) → IsViable kind front
 viable_front {kind = kind} front more v = (more ++ v.0, v.1, subst (SpellsChunk kind v.1) (append_assoc front more v.0) v.2)
 
 alike : (x y : Word) (c d : Words) → x ≡ y → c ≡ d → ◌≡◌ {A = Words} (y ∷ c) (x ∷ d)
 alike x y c d e f = cc
 
 -- two ways to cut words, the first no longer in front than the second
-cuts : (a b c d : Words) → a ++ b ≡ c ++ d → length d ≤ length b → (m : Words) × (c ≡ a ++ m)
+pub cuts : (a b c d : Words) → a ++ b ≡ c ++ d → length d ≤ length b → (m : Words) × (c ≡ a ++ m)
 cuts [] b c d e l = (c, refl)
 cuts (x ∷ a) b [] d e l = let f = ap (λ z. length z) e in absurd (omega (arith, f, l, length-append a b))
 cuts (x ∷ a) b (y ∷ c) d e l = let g : x ≡ y = cc in let f : a ++ b ≡ c ++ d = cc in let r = cuts a b c d f l in (r.0, alike x y c (a ++ r.0) g r.1)
@@ -110,20 +110,20 @@ stops_before kind front x us (z ∷ rest) e l v =
 
 -- ---- the first fault is one, and there is one exactly where no tree is spelled
 
-same_length : (a b c d : Words) → a ++ b ≡ c ++ d → length b ≡ length d → b ≡ d
+pub same_length : (a b c d : Words) → a ++ b ≡ c ++ d → length b ≡ length d → b ≡ d
 same_length [] b [] d e l = e
 same_length [] b (y ∷ c) d e l = let f = ap (λ z. length z) e in absurd (omega (arith, f, l, length-append c d))
 same_length (x ∷ a) b [] d e l = let f = ap (λ z. length z) e in absurd (omega (arith, f, l, length-append a b))
 same_length (x ∷ a) b (y ∷ c) d e l = let f : a ++ b ≡ c ++ d = cc in same_length a b c d f l
 
 -- a front that can go on, and an earlier first word that can't
-not_earlier : {kind : ModuleKind} (all front rest other left : Words) → all ≡ front ++ rest → IsViable kind front → all ≡ other ++ left → IsDead kind other left → length rest < length left → ⊥
+pub not_earlier : {kind : ModuleKind} (all front rest other left : Words) → all ≡ front ++ rest → IsViable kind front → all ≡ other ++ left → IsDead kind other left → length rest < length left → ⊥
 not_earlier all front rest other [] e v f d l = omega (arith, l)
 not_earlier all front rest other (x ∷ left) e v f d l =
     let c = cuts (other ++ x ∷ []) left front rest (append_assoc other (x ∷ []) left ∙ sym f ∙ e) (omega (arith, l)) in
     d (viable_front (other ++ x ∷ []) c.0 (subst (IsViable _) c.1 v))
 
-shorter_or_not : (n m : ℕ) → (n < m) ⊎ (m ≤ n)
+pub shorter_or_not : (n m : ℕ) → (n < m) ⊎ (m ≤ n)
 shorter_or_not n m = go (nat_lt n m) refl
   where
     go : (c : Bool) → nat_lt n m ≡ c → (n < m) ⊎ (m ≤ n)

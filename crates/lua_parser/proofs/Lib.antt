@@ -3,10 +3,15 @@ pub mod Marks
 pub mod Viability
 pub mod Completeness
 pub mod Laws
+pub mod TooDeep
+pub mod Heights
+pub mod Counting
 pub mod Heads
 pub mod Goings
 pub mod Starts
 pub mod TypeSteps
+pub mod Openings
+pub mod Cuts
 pub mod Parsings
 pub mod Closings
 pub mod Parts

@@ -1,6 +1,7 @@
 pub mod Words
 pub mod Grammar
 pub mod Machine
+pub mod Counting
 pub mod Outcomes
 pub mod Stacks
 pub mod TypeReadings

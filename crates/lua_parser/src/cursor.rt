@@ -292,7 +292,7 @@ impl<'a> Cursor<'a> {
 }
 
 /// The text of a token in its source.
-fn slice_of<'a>(source: &'a [u8], token: &Token) -> &'a [u8]
+pub(crate) fn slice_of<'a>(source: &'a [u8], token: &Token) -> &'a [u8]
     ensures { result.now ≡ slice_of source.now token.now }
 {
     let start = token.start as usize;
@@ -309,7 +309,7 @@ fn slice_of<'a>(source: &'a [u8], token: &Token) -> &'a [u8]
 }
 
 /// The operator between operands that a symbol is.
-fn binary_of(symbol: Symbol) -> Option<BinaryOperator>
+pub(crate) fn binary_of(symbol: Symbol) -> Option<BinaryOperator>
     ensures { result ≡ binary_at (mark (sign symbol)) }
 {
     match symbol {

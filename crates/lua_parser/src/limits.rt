@@ -1,8 +1,12 @@
-/// How many constructs may be open in one another.
-const DEEPEST: u32 = 200;
+// The limits of the reading lie above those of the grammar, 200 and 1000, so that it goes on behind the first token that is too deep until that token's
+// label is settled. They keep its memory small, and its calls in one another few.
 
-/// How high an expression may be.
-const HIGHEST: u32 = 1000;
+/// How many constructs may be open in one another: a token may begin two.
+pub(crate) const DEEPEST: u32 = 210;
+
+/// How high an expression or type may be, and how many results without parentheses may be open in one another: a token may end something in each
+/// construct that is open.
+pub(crate) const HIGHEST: u32 = 1300;
 
 /// How deep the reading is, and how high the expression is that was read last. Contracts see nothing of it.
 #[derive(Clone, Copy, Debug)]

@@ -1,13 +1,11 @@
-ghost use Rattle.std.specs.Prelude.{◌≡◌, ℕ, ◌<◌, ◌≤◌, [], length, None, Err, IfOk, IfErr};
+ghost use Rattle.std.specs.Prelude.{◌≡◌, ℕ, ◌<◌, ◌≤◌, [], length, IfOk, IfErr};
 ghost use Rattle.lua_tree.specs.declared.syntax.Block.{Block};
-ghost use Rattle.lua_parser.specs.Words.{Words, words_of};
+ghost use Rattle.lua_parser.specs.Words.{words_of};
 ghost use Rattle.lua_parser.specs.Grammar.Syntax.{SpellsChunk};
-ghost use Rattle.lua_parser.specs.Parsing.{IsModule, IsRefused, IsFailure, IsTree, IsRefusal, GoesPast, head_foreign, code_if};
+ghost use Rattle.lua_parser.specs.Parsing.{IsModule, IsShallow, IsRefused, IsFailure, IsTree, IsRefusal};
 ghost use Rattle.lua_parser.specs.Parts.{parts_of, AreNumbered};
 ghost use Rattle.lua_lexer.specs.Tokens.{Lexed};
-ghost use Rattle.lua_parser.specs.Machine.Run.{run};
 ghost use Rattle.tl_base.specs.declared.refusal.Refusal.{Refusal};
-ghost use Rattle.tl_base.specs.declared.place.ModuleKind.TheVariants.{Typed as typed};
 ghost use Rattle.lua_parser.specs.Machine.Run.{module_plan};
 ghost use Rattle.lua_parser.specs.Stacks.{Goes, Steps, Reaches, plan, weight};
 ghost use Rattle.lua_parser.specs.declared.reader.Mode.TheVariants as mode;
@@ -15,11 +13,12 @@ ghost use Rattle.lua_parser.specs.declared.reader.Mode.TheVariants as mode;
 use crate::blocks::block;
 use crate::cursor::{Cursor, Stop};
 use crate::reader::{Mode, Reader};
+use crate::refusals::{read_too_far, refusal, whole};
 use crate::stack::Stack;
 use lua_lexer::Token;
 use lua_tree::{Block, Chunk, Return};
 use std::alloc::Global;
-use tl_base::{Failure, List, ModuleKind, NoMemory, Refusal, RefusalCode};
+use tl_base::{Failure, List, ModuleKind};
 
 /// What one step of the reading gives.
 #[derive(Drop)]
@@ -31,7 +30,12 @@ pub(crate) enum Step {
 
 impl<'a> Reader<'a> {
     /// A reader at the beginning of a module.
-    fn new(alloc: Global, kind: ModuleKind, source: &'a [u8], tokens: &'a [Token]) -> Reader<'a>
+    pub(crate) fn new(
+        alloc: Global,
+        kind: ModuleKind,
+        source: &'a [u8],
+        tokens: &'a [Token],
+    ) -> Reader<'a>
         ensures kind { result.kind ≡ kind }
         ensures words { result.cursor ≡ words_of source.now tokens.now }
         ensures plan { plan result mode.Block ≡ module_plan }
@@ -116,14 +120,13 @@ impl<'a> Reader<'a> {
     }
 
     /// Reads all that is left.
-    fn read(&mut self, first: Mode) -> Result<Block, Stop>
+    pub(crate) fn read(&mut self, first: Mode) -> Result<Block, Stop>
         ensures { Reaches (plan self.old first) self.old result self.new }
     {
         let mut mode = first;
         loop {
-            // no token stands behind the file's end, so this is no file's list of tokens
             if self.cursor.is_over() {
-                return Err(Stop::NoMemory);
+                return Err(Stop::Unexpected);
             }
             match self.step(mode)? {
                 Step::Next(next) => mode = next,
@@ -133,10 +136,11 @@ impl<'a> Reader<'a> {
     }
 }
 
-/// The tree of a module's tokens, which are those of `source`, or the refusal at the first token with which no spelling goes on: P2 for `/` and `^`, P3 for
-/// `goto` and `::`, P5 for a token that would go on in a typed module, else P1. `module` is the file's number, which the tokens' places bear. A module with
-/// more than 200 constructs in one another, or with an expression or a type that is more than 1000 high, is answered as want of memory, and so are
-/// tokens whose last isn't `End`. The uses of names are numbered from 0 on in order of place.
+/// The tree of a module's tokens, which are those of `source`, or the refusal at one of them: P4 at the first that is inside more than 200 constructs or ends
+/// an expression or a type of a height above 1000, where no fault stands before it; else the first with which no spelling goes on, with P2 for `/` and
+/// `^`, P3 for `goto` and `::`, P5 for a token that would go on in a typed module, else P1. `module` is the file's number, which the tokens' places bear.
+/// Tokens whose last isn't `End` are answered as want of memory, and so is a module whose first fault stands right behind an expression or a type
+/// that is more than 1000 high if it ends there. The uses of names are numbered from 0 on in order of place. It takes time linear in the tokens.
 pub fn parse(
     alloc: Global,
     module: u32,
@@ -146,7 +150,7 @@ pub fn parse(
 ) -> Result<Chunk, Failure>
     ensures tree { IfOk result (λ c. IsModule «module» kind (words_of source.now tokens.now) c) }
     ensures refused { IfErr result (λ e. IsFailure kind (words_of source.now tokens.now) e) }
-    ensures only_tree { (b : Block) → SpellsChunk kind b (words_of source.now tokens.now) → IsTree b result }
+    ensures only_tree { (b : Block) → SpellsChunk kind b (words_of source.now tokens.now) → IsShallow kind (words_of source.now tokens.now) → IsTree b result }
     ensures only_refusal { (r : Refusal) → IsRefused kind (words_of source.now tokens.now) r → IsRefusal r result }
     ensures numbered { IfOk result (λ c. AreNumbered 0 (parts_of c.body)) }
     ensures fewer { IfOk result (λ c. length (parts_of c.body) < length tokens.now) }
@@ -154,81 +158,26 @@ pub fn parse(
 {
     let mut reader = Reader::new(alloc, kind, source, tokens.as_slice());
     match reader.read(Mode::Block) {
-        Ok(body) => Ok(Chunk { module, kind, body }),
-        Err(Stop::Unexpected) => Err(fault(alloc, kind, source, tokens.as_slice(), &reader.cursor)),
+        Ok(body) => whole(
+            alloc,
+            source,
+            tokens.as_slice(),
+            Chunk { module, kind, body },
+        ),
+        Err(Stop::Unexpected) => Err(refusal(
+            alloc,
+            kind,
+            source,
+            tokens.as_slice(),
+            &reader.cursor,
+        )),
+        Err(Stop::Deep) => Err(read_too_far(
+            alloc,
+            kind,
+            source,
+            tokens.as_slice(),
+            reader.cursor.len(),
+        )),
         Err(_) => Err(Failure::NoMemory),
-    }
-}
-
-/// The refusal at the first token that is left where reading stops.
-fn fault(
-    alloc: Global,
-    kind: ModuleKind,
-    source: &[u8],
-    tokens: &[Token],
-    left: &Cursor<'_>,
-) -> Failure
-    requires { run kind module_plan (words_of source.now tokens.now) ≡ Err left.now }
-    ensures { IsFailure kind (words_of source.now tokens.now) result }
-{
-    if left.is_over() {
-        return Failure::NoMemory;
-    }
-    match left.foreign() {
-        Some(code) => Failure::Refused(Refusal {
-            code,
-            pos: left.pos(),
-        }),
-        None => own_fault(alloc, kind, source, tokens, left),
-    }
-}
-
-/// The refusal at the first token that is left where reading stops, which is one that Lua has.
-fn own_fault(
-    alloc: Global,
-    kind: ModuleKind,
-    source: &[u8],
-    tokens: &[Token],
-    left: &Cursor<'_>,
-) -> Failure
-    requires stops { run kind module_plan (words_of source.now tokens.now) ≡ Err left.now }
-    requires some { left.now ≡ [] → ⊥ }
-    requires own { head_foreign left.now ≡ None }
-    ensures { IsFailure kind (words_of source.now tokens.now) result }
-{
-    match goes_on_typed(alloc, source, tokens, left.len()) {
-        Ok(goes) => Failure::Refused(Refusal {
-            code: types_code(goes),
-            pos: left.pos(),
-        }),
-        Err(NoMemory) => Failure::NoMemory,
-    }
-}
-
-/// The code of a token that would go on in a typed module, or wouldn't.
-fn types_code(goes: bool) -> RefusalCode
-    ensures { result ≡ code_if goes }
-{
-    if goes {
-        RefusalCode::P5
-    } else {
-        RefusalCode::P1
-    }
-}
-
-/// Whether the reading of a typed module leaves fewer tokens than these.
-fn goes_on_typed(
-    alloc: Global,
-    source: &[u8],
-    tokens: &[Token],
-    left: usize,
-) -> Result<bool, NoMemory>
-    ensures { IfOk result (λ goes. GoesPast left (run typed module_plan (words_of source.now tokens.now)) goes) }
-{
-    let mut reader = Reader::new(alloc, ModuleKind::Typed, source, tokens);
-    match reader.read(Mode::Block) {
-        Ok(_) => Ok(true),
-        Err(Stop::Unexpected) => Ok(reader.cursor.len() < left),
-        Err(_) => Err(NoMemory),
     }
 }

@@ -25,7 +25,7 @@ impl<T> Model for Stack<T> {
 }
 
 impl<T> Stack<T> {
-    ghost use Rattle.std.specs.Prelude.{◌≡◌, [], ◌↔◌, IsTrue};
+    ghost use Rattle.std.specs.Prelude.{◌≡◌, [], ◌↔◌, IsTrue, reverse};
     ghost use Rattle.lua_parser.specs.Stacks.{onto};
 
     pub(crate) fn new(alloc: Global) -> Stack<T>
@@ -50,6 +50,13 @@ impl<T> Stack<T> {
         ensures left { self.new ≡ [] }
     {
         replace(self, Stack::new(alloc))
+    }
+
+    /// The elements, the one put away first standing first.
+    pub(crate) fn as_slice(&self) -> &[T]
+        ensures { result.now ≡ reverse self.now }
+    {
+        &self.items
     }
 
     pub(crate) fn is_empty(&self) -> bool

@@ -13,20 +13,12 @@ ghost use Rattle.lua_parser.specs.Outcomes.{head_is};
 ghost use Rattle.lua_parser.specs.TypeReadings.{NoType, Refuses, member_of, after_of, joined_by, Turns, Gets, ReadsPart, Stays, Meets, NoBar, EatsName, rest_of_name, end_of_array, next_of_fields, type_of_field, Encloses, Builds, ReadsNamed};
 
 use crate::cursor::{Cursor, Stop};
+use crate::limits::{DEEPEST, HIGHEST};
 use lua_lexer::{Keyword, Symbol};
 use lua_tree::{Name, TypeExpr, TypeField, TypeResults, TypeTuple};
 use std::alloc::Global;
 use std::cmp::max;
 use tl_base::{Boxed, List, NoMemory, Pos};
-
-/// How many constructs may be open in one another.
-const DEEPEST: u32 = 200;
-
-/// How high a type may be.
-const HIGHEST: u32 = 1000;
-
-/// How many results without parentheses may be open in one another: a function type of more is higher than a type may be.
-const LONGEST_CHAIN: u32 = 500;
 
 /// What is open where a type is read.
 #[derive(Clone, Copy, Debug, PartialEq, Eq)]
@@ -60,7 +52,7 @@ impl Nest {
     pub(crate) fn in_results(self) -> Result<Nest, Stop>
         ensures { IfErr result (λ e. e ≡ stop.Deep) }
     {
-        if self.chain >= LONGEST_CHAIN {
+        if self.chain >= HIGHEST {
             return Err(Stop::Deep);
         }
         Ok(Nest {

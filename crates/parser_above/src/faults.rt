@@ -86,7 +86,7 @@ local x: - y = 1  1:12 P1
 x = 1 / 2  1:7 P2
 ";
 
-fn answer(alloc: Global, kind: ModuleKind, text: &str) -> Result<String, AllocError> {
+pub(crate) fn answer(alloc: Global, kind: ModuleKind, text: &str) -> Result<String, AllocError> {
     let source = text.as_bytes();
     let Ok(tokens) = lex(alloc, 0, source) else {
         return format!(in alloc; "no tokens");
@@ -102,7 +102,7 @@ fn answer(alloc: Global, kind: ModuleKind, text: &str) -> Result<String, AllocEr
 }
 
 // Compares each line of a table, and gives their number.
-fn agrees(
+pub(crate) fn agrees(
     rt: &impl Abort,
     alloc: Global,
     kind: ModuleKind,

@@ -2,6 +2,10 @@
 #![tactic(auto)]
 
 #[cfg(test)]
+mod cuts;
+#[cfg(test)]
+mod depth;
+#[cfg(test)]
 mod faults;
 #[cfg(test)]
 mod shapes;

@@ -13,7 +13,7 @@ use Rattle.lua_lexer.specs.Tokens.{Lexed, Refused}
 use Rattle.lua_lexer.proofs.Laws as lexing
 use Rattle.lua_parser.specs.Words.{Words, words_of}
 use Rattle.lua_parser.specs.Parsing.{IsModule, IsRefused}
-use Rattle.lua_parser.proofs.Laws.{one_tree, no_tree_at_fault}
+use Rattle.lua_parser.proofs.Laws.{one_tree}
 use Rattle.lua_parser.proofs.Parsings as parsing
 use Rattle.tl_rules.specs.Checked.{Checked, fine, fault}
 use Rattle.tl_rules.specs.Crossings.{block_marks}
@@ -68,7 +68,7 @@ module_once kind ts a b h k =
     λ i. record { «module» = numbers i; kind = kinds i; body = bodies i }
 
 refusal_or_module : (kind : ModuleKind) (ts : Words) (r : Refusal) (a : Chunk) → IsRefused kind ts r → IsModule 0 kind ts a → ⊥
-refusal_or_module kind ts r a h k = no_tree_at_fault k.2 (h.front, h.whole, h.begins, h.stops)
+refusal_or_module kind ts r a h k = parsing.refused_no_tree h k.2 k.3
 
 tokens_once : (file input : Text) (kind : ModuleKind) (source : Text) (tokens : List Token) (x y : Ending) → OfTokens file input kind source tokens x → OfTokens file input kind source tokens y → x ≡ y
 tokens_once file input kind source tokens =

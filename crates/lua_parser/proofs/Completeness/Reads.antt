@@ -125,22 +125,22 @@ module _ (kind : ModuleKind) where
   left_looser o j (inr a) (inl b) l = omega (arith, a.0, a.1, b.1, l)
   left_looser o j (inr a) (inr b) l = absurd (omega (arith, a.1, b.0, l))
 
-  behind_left : (o : BinaryOperator) (c : Bool) → Behind (left_level o) c (mark (binary_mark o))
+  pub behind_left : (o : BinaryOperator) (c : Bool) → Behind (left_level o) c (mark (binary_mark o))
   behind_left o c = record { looser = λ i d j l. subst (λ z. level z < right_level j) (some_once o i (sym (binary_at_mark o) ∙ d)) (left_looser o j (associates o) (associates j) l); no_call = λ f. operator_no_suffix o }
 
-  behind_right : {l : ℕ} {c : Bool} {k : WordKind} (o : BinaryOperator) → l ≤ level o → Behind l c k → Behind (right_level o) c k
+  pub behind_right : {l : ℕ} {c : Bool} {k : WordKind} (o : BinaryOperator) → l ≤ level o → Behind l c k → Behind (right_level o) c k
   behind_right o f b = record { looser = λ i d j l. omega (arith, b.looser i d o f, l, right_above j); no_call = b.no_call }
 
-  behind_unary : {l : ℕ} {c : Bool} {k : WordKind} → Behind l c k → Behind unary_level c k
+  pub behind_unary : {l : ℕ} {c : Bool} {k : WordKind} → Behind l c k → Behind unary_level c k
   behind_unary b = record { looser = λ i d j l. absurd (omega (arith, l, level_fits j)); no_call = b.no_call }
 
-  sure : {k : WordKind} → binary_at k ≡ None → ((a : Expr) (n : ℕ) (p : Pos) → suffix a n p k ≡ None) → (c : Bool) → ExprEnd c k
+  pub sure : {k : WordKind} → binary_at k ≡ None → ((a : Expr) (n : ℕ) (p : Pos) → suffix a n p k ≡ None) → (c : Bool) → ExprEnd c k
   sure f g c = record { no_op = f; no_call = λ d. g }
 
-  follow_end : {k : WordKind} {c : Bool} → Follow k → (c ≡ true → opens k ≡ false) → ExprEnd c k
+  pub follow_end : {k : WordKind} {c : Bool} → Follow k → (c ≡ true → opens k ≡ false) → ExprEnd c k
   follow_end f g = record { no_op = follow_no_op f; no_call = λ d a n p. follow_no_suffix f (g d) a n p }
 
-  ends_end : {k : WordKind} (c : Bool) → EndsBlock k → ExprEnd c k
+  pub ends_end : {k : WordKind} (c : Bool) → EndsBlock k → ExprEnd c k
   ends_end c f = follow_end (ends_follows f) (λ d. ends_no_open f)
 
   used_no_name : (x : Word) (us : Words) → after_use x.kind ≡ true → no_name (x ∷ us) ≡ true
@@ -202,7 +202,7 @@ module _ (kind : ModuleKind) where
       → run kind (read (Item.rest_of_function p a n) k) (ts ++ us) ≡ run kind (read (Item.a_body n) λ d. k (stat.Function p a (e.Function p d.0), d.1)) (ts ++ us)
   body_opens (SpellsBody.function_body p q z d f g) o a k us = refl
 
-  closed_before : (ts : Words) (z : Word) (us : Words) → begins_open ts ≡ false → opens z.kind ≡ false → begins_open (ts ++ z ∷ us) ≡ false
+  pub closed_before : (ts : Words) (z : Word) (us : Words) → begins_open ts ≡ false → opens z.kind ≡ false → begins_open (ts ++ z ∷ us) ≡ false
   closed_before [] z us f g = g
   closed_before (x ∷ ts) z us f g = f
 

@@ -60,7 +60,7 @@ behind_end h c k x = record { looser = λ o d i l. absurd (no_some o (sym d ∙ 
     no_some : (o : BinaryOperator) → ◌≡◌ {A = Option BinaryOperator} (Some o) None → ⊥
     no_some o d = cc
 
-no_assign : (k : WordKind) (p : Pos) → after_use k ≡ true → is_sign s.Assign k ≡ false
+pub no_assign : (k : WordKind) (p : Pos) → after_use k ≡ true → is_sign s.Assign k ≡ false
 no_assign k p h = go (is_sign s.Assign k) refl
   where
     go : (c : Bool) → is_sign s.Assign k ≡ c → is_sign s.Assign k ≡ false
@@ -72,7 +72,7 @@ abbrev pub no_name : Words → Bool
 no_name [] = true
 no_name (x ∷ us) = if_name x.kind (λ n. false) true
 
-if_no_name : {B : Type 0} (k : WordKind) (f : List ℕ → B) (a : B) → if_name k (λ n. false) true ≡ true → if_name k f a ≡ a
+pub if_no_name : {B : Type 0} (k : WordKind) (f : List ℕ → B) (a : B) → if_name k (λ n. false) true ≡ true → if_name k f a ≡ a
 if_no_name (WordKind.name n) f a h = cc
 if_no_name (mark n) f a h = refl
 if_no_name (WordKind.number n) f a h = refl
